@@ -1,0 +1,46 @@
+//! What is asked of a region or of the gateway.
+
+use crate::kinds::EventKind;
+use crate::lists::List;
+use crate::moments::Instant;
+use crate::texts::StopRef;
+
+/// A trip from the origin, not before the start, to the target.
+#[derive(Clone, Copy, Debug, PartialEq, Eq)]
+pub struct TripAsk {
+    pub origin: StopRef,
+    pub start: Instant,
+    pub target: StopRef,
+}
+
+/// A trip from the origin, not before the start, to each of 1 to 256 targets.
+#[derive(Clone, Debug, PartialEq, Eq, Drop)]
+pub struct MultiAsk {
+    pub origin: StopRef,
+    pub start: Instant,
+    pub targets: List<StopRef>,
+}
+
+/// The first events at the stop, not before the start; their number is 1 to 100.
+#[derive(Clone, Copy, Debug, PartialEq, Eq)]
+pub struct EventAsk {
+    pub stop: StopRef,
+    pub start: Instant,
+    pub kind: EventKind,
+    pub number: u32,
+}
+
+/// The exchange points, all of them or the one at the place.
+#[derive(Clone, Copy, Debug, PartialEq, Eq)]
+pub struct PointsAsk {
+    pub place: Option<StopRef>,
+}
+
+/// A request of one of the four services.
+#[derive(Clone, Debug, PartialEq, Eq, Drop)]
+pub enum Ask {
+    Trip(TripAsk),
+    Multi(MultiAsk),
+    Events(EventAsk),
+    Points(PointsAsk),
+}

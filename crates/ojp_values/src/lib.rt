@@ -1,0 +1,26 @@
+//! The values that requests and replies of the journey planner are made of.
+//!
+//! A code, a stop reference, a label and a name are seen by contracts as their bytes, an instant and
+//! an operating day as a number, a list as its items. Asks, trips, replies and documents are plain data.
+#![tactic(auto)]
+
+pub mod asks;
+pub mod documents;
+mod fixed;
+pub mod kinds;
+pub mod lists;
+pub mod memory;
+pub mod moments;
+pub mod replies;
+pub mod texts;
+pub mod trips;
+
+pub use asks::{Ask, EventAsk, MultiAsk, PointsAsk, TripAsk};
+pub use documents::Doc;
+pub use kinds::{BadText, EventKind, Kind};
+pub use lists::List;
+pub use memory::NoMemory;
+pub use moments::{Day, Instant};
+pub use replies::{Delivery, EventsReply, Fault, MultiReply, PointsReply, TripReply, TripResult};
+pub use texts::{Code, Label, Name, StopRef};
+pub use trips::{Event, Leg, Neighbour, Point, Trip};
