@@ -1,0 +1,70 @@
+-- One small timetable, and what the definitions say of it. Day 19849 is Monday 2024-05-06, and 1714982400 is 08:00 on it in UTC.
+use Rattle.std.specs.Prelude.{◌≡◌, ℕ, true, List, [], ◌∷◌, ◌++◌, Some, None, codes, slice_index, replicate}
+use Rattle.ojp_values.specs.Texts.{Text}
+use Rattle.ojp_values.specs.declared.trips.Leg.{Leg}
+use Rattle.ojp_values.specs.declared.trips.Point.{Point}
+use Rattle.ojp_values.specs.declared.asks.TripAsk.{TripAsk}
+use Rattle.ojp_values.specs.declared.asks.Ask.TheVariants as asks
+use Rattle.ojp_values.specs.declared.kinds.EventKind.TheVariants.{Departure}
+use Rattle.ojp_values.specs.declared.replies.Fault.TheVariants as faults
+use Rattle.ojp_values.specs.declared.replies.TripReply.TheVariants as trip_replies
+use Rattle.ojp_values.specs.declared.replies.EventsReply.TheVariants as events_replies
+use Rattle.ojp_values.specs.declared.replies.PointsReply.TheVariants as points_replies
+use Rattle.ojp_values.specs.declared.replies.Delivery.TheVariants as deliveries
+use Rattle.ojp_timetable.specs.Tables.{Timetable}
+use Rattle.ojp_timetable.specs.Journeys.{Regional, United}
+use Rattle.ojp_timetable.specs.Rows.{UnitedByRows}
+use Rattle.ojp_timetable.specs.Answers.{RegionAnswers}
+
+-- J1 leaves AA:a at 08:10 and reaches AA:b at 08:20, each day of 2024, in a zone whose noons these are
+abbrev pub small : List ℕ → Timetable
+small noons =
+    record {
+      region = codes "AA";
+      places = record { stop = codes "AA:a"; change = 60; name = codes "Alder & Beech" } ∷ record { stop = codes "AA:b"; change = 60; name = codes "Beech" } ∷ [];
+      points = [];
+      services = record { id = codes "W"; first = 19723; last = 20088; marks = replicate 7 true } ∷ [];
+      journeys = record { id = codes "J1"; line = codes "L5"; service = 0; calls = record { stop = codes "AA:a"; arrives = None; departs = Some 29400 } ∷ record { stop = codes "AA:b"; arrives = Some 30000; departs = None } ∷ [] } ∷ [];
+      noons = noons;
+    }
+
+-- the ride of J1 on 2024-05-06, where noon is that of UTC
+abbrev pub ride : Leg
+ride =
+    record {
+      region = codes "AA";
+      journey = codes "J1";
+      line = codes "L5";
+      day = 19849;
+      board = codes "AA:a";
+      board_name = codes "Alder & Beech";
+      departs = 1714983000;
+      alight = codes "AA:b";
+      alight_name = codes "Beech";
+      arrives = 1714983600;
+    }
+
+-- noon of 2024-05-06 is that of UTC
+abbrev pub IsInUtc : List ℕ → Type 0
+IsInUtc noons = slice_index noons 19847 ≡ 1714996800
+
+-- the ride is a journey from AA:a at 08:00 to AA:b, of the region and of the regions together
+abbrev pub RideIsAJourney : Type 0
+RideIsAJourney =
+    (noons : List ℕ) → IsInUtc noons
+    → Regional (small noons) (codes "AA:a") 1714982400 (codes "AA:b") 1714983600 (ride ∷ [])
+    × (United (small noons ∷ []) (codes "AA:a") 1714982400 (codes "AA:b") 1714983600 (ride ∷ [])
+    × UnitedByRows (small noons ∷ []) (codes "AA:a") 1714982400 (codes "AA:b") 1714983600 (ride ∷ []))
+
+abbrev pub asked : Text → Text → TripAsk
+asked o d = record { origin = o; start = 1714982400; target = d }
+
+-- a stop that is both ends is answered as such though it is unknown, and of two unknown stops the origin is named
+abbrev pub FaultsAreNamed : Type 0
+FaultsAreNamed =
+    (noons : List ℕ)
+    → RegionAnswers (small noons) (asks.Trip (asked (codes "AA:q") (codes "AA:q"))) (deliveries.Trip (trip_replies.Fault (faults.SameStop (codes "AA:q"))))
+    × (RegionAnswers (small noons) (asks.Trip (asked (codes "AA:a") (codes "ZZ:z"))) (deliveries.Trip (trip_replies.Fault (faults.StopUnknown (codes "ZZ:z"))))
+    × (RegionAnswers (small noons) (asks.Trip (asked (codes "ZZ:y") (codes "ZZ:z"))) (deliveries.Trip (trip_replies.Fault (faults.StopUnknown (codes "ZZ:y"))))
+    × (RegionAnswers (small noons) (asks.Events (record { stop = codes "AA:q"; start = 1714982400; kind = Departure; number = 1 })) (deliveries.Events (events_replies.Fault (faults.StopUnknown (codes "AA:q"))))
+    × RegionAnswers (small noons) (asks.Points (record { place = None })) (deliveries.Points (points_replies.Points [])))))
