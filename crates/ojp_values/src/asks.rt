@@ -1,5 +1,7 @@
 //! What is asked of a region or of the gateway.
 
+ghost use Rattle.std.specs.Prelude.{◌↔◌, IsTrue};
+
 use crate::kinds::EventKind;
 use crate::lists::List;
 use crate::moments::Instant;
@@ -43,4 +45,19 @@ pub enum Ask {
     Multi(MultiAsk),
     Events(EventAsk),
     Points(PointsAsk),
+}
+
+impl Ask {
+    ghost use Rattle.ojp_values.specs.Limits.{IsWellAsk};
+
+    /// Whether 1 to 256 targets are asked, or 1 to 100 events.
+    pub fn is_well(&self) -> bool
+        ensures { IsTrue result ↔ IsWellAsk self.now }
+    {
+        match self {
+            Ask::Trip(_) | Ask::Points(_) => true,
+            Ask::Multi(ask) => (1..=256).contains(&ask.targets.len()),
+            Ask::Events(ask) => (1..=100).contains(&ask.number),
+        }
+    }
 }

@@ -1,5 +1,7 @@
 //! The documents that are exchanged.
 
+ghost use Rattle.std.specs.Prelude.{◌↔◌, IsTrue};
+
 use crate::asks::Ask;
 use crate::replies::Delivery;
 
@@ -8,4 +10,18 @@ use crate::replies::Delivery;
 pub enum Doc {
     Ask(Ask),
     Delivery(Delivery),
+}
+
+impl Doc {
+    ghost use Rattle.ojp_values.specs.Limits.{IsWell};
+
+    /// Whether each number and each length of a list is within its limits; takes no memory.
+    pub fn is_well(&self) -> bool
+        ensures { IsTrue result ↔ IsWell self.now }
+    {
+        match self {
+            Doc::Ask(ask) => ask.is_well(),
+            Doc::Delivery(delivery) => delivery.is_well(),
+        }
+    }
 }

@@ -1,5 +1,8 @@
 //! Trips and their legs, stop events and exchange points.
 
+ghost use Rattle.std.specs.Prelude.{◌↔◌, IsTrue, All};
+ghost use Rattle.ojp_values.specs.Limits.{IsChange, IsWellNeighbour};
+
 use crate::lists::List;
 use crate::moments::{Day, Instant};
 use crate::texts::{Code, Label, Name, StopRef};
@@ -55,4 +58,51 @@ pub struct Point {
     pub stop: StopRef,
     pub change: u32,
     pub neighbours: List<Neighbour>,
+}
+
+impl Trip {
+    ghost use Rattle.ojp_values.specs.Limits.{IsWellTrip};
+
+    /// Whether there are 1 to 86,401 legs.
+    pub fn is_well(&self) -> bool
+        ensures { IsTrue result ↔ IsWellTrip self.now }
+    {
+        let legs = self.legs.len();
+        1 <= legs && legs <= 86_401
+    }
+}
+
+impl Neighbour {
+    /// Whether the change takes 1 to 7,200 seconds.
+    pub fn is_well(&self) -> bool
+        ensures { IsTrue result ↔ IsWellNeighbour self.now }
+    {
+        is_change(self.change)
+    }
+}
+
+impl Point {
+    ghost use Rattle.ojp_values.specs.Limits.{IsWellPoint};
+
+    /// Whether there are at most 31 neighbours, and each change takes 1 to 7,200 seconds.
+    pub fn is_well(&self) -> bool
+        ensures { IsTrue result ↔ IsWellPoint self.now }
+    {
+        is_change(self.change)
+            && self.neighbours.len() <= 31
+            && are_well(self.neighbours.as_slice())
+    }
+}
+
+fn are_well(neighbours: &[Neighbour]) -> bool
+    ensures { IsTrue result ↔ All IsWellNeighbour neighbours.now }
+{
+    neighbours.iter().all(|neighbour| neighbour.is_well())
+}
+
+/// Whether a change may take so many seconds.
+fn is_change(seconds: u32) -> bool
+    ensures { IsTrue result ↔ IsChange seconds }
+{
+    1 <= seconds && seconds <= 7_200
 }
