@@ -11,20 +11,34 @@ use Rattle.ojp_values.specs.declared.replies.TripReply.TheVariants as trip_repli
 use Rattle.ojp_values.specs.declared.replies.EventsReply.TheVariants as events_replies
 use Rattle.ojp_values.specs.declared.replies.PointsReply.TheVariants as points_replies
 use Rattle.ojp_values.specs.declared.replies.Delivery.TheVariants as deliveries
-use Rattle.ojp_timetable.specs.Tables.{Timetable}
+use Rattle.ojp_timetable.specs.Tables.{Timetable, Service, Journey, Call}
 use Rattle.ojp_timetable.specs.Journeys.{Regional, United}
 use Rattle.ojp_timetable.specs.Rows.{UnitedByRows}
 use Rattle.ojp_timetable.specs.Answers.{RegionAnswers}
 
--- J1 leaves AA:a at 08:10 and reaches AA:b at 08:20, each day of 2024, in a zone whose noons these are
+-- each day of 2024
+abbrev pub daily : Service
+daily = record { id = codes "W"; first = 19723; last = 20088; marks = replicate 7 true }
+
+abbrev pub leaving : Call
+leaving = record { stop = codes "AA:a"; arrives = None; departs = Some 29400 }
+
+abbrev pub arriving : Call
+arriving = record { stop = codes "AA:b"; arrives = Some 30000; departs = None }
+
+-- J1 leaves AA:a at 08:10 and reaches AA:b at 08:20
+abbrev pub first_journey : Journey
+first_journey = record { id = codes "J1"; line = codes "L5"; service = 0; calls = leaving ∷ arriving ∷ [] }
+
+-- a region with that one journey, in a zone whose noons these are
 abbrev pub small : List ℕ → Timetable
 small noons =
     record {
       region = codes "AA";
       places = record { stop = codes "AA:a"; change = 60; name = codes "Alder & Beech" } ∷ record { stop = codes "AA:b"; change = 60; name = codes "Beech" } ∷ [];
       points = [];
-      services = record { id = codes "W"; first = 19723; last = 20088; marks = replicate 7 true } ∷ [];
-      journeys = record { id = codes "J1"; line = codes "L5"; service = 0; calls = record { stop = codes "AA:a"; arrives = None; departs = Some 29400 } ∷ record { stop = codes "AA:b"; arrives = Some 30000; departs = None } ∷ [] } ∷ [];
+      services = daily ∷ [];
+      journeys = first_journey ∷ [];
       noons = noons;
     }
 
