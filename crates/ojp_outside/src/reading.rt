@@ -1,0 +1,54 @@
+//! Reading a source up to its end, or to a limit.
+ghost use Rattle.std.specs.Prelude.{◌≡◌, ◌<◌, ◌≤◌, ◌++◌, ℕ, List, IfOk, OnErr, IsTrue, length, vec_len, Err};
+ghost use Rattle.std.specs.Io.KnownBytes.{Consumes, IsAtEnd};
+ghost use Rattle.ojp_outside.specs.Causes.{Rose};
+ghost use Rattle.ojp_outside.specs.Known.{LosesPrefix};
+
+use crate::{Failed, Source};
+use std::alloc::Global;
+
+/// Why a source was not read to its end.
+#[derive(Clone, Copy, Debug, PartialEq, Eq)]
+pub enum ReadRefused {
+    /// A read failed.
+    Failed,
+    /// Memory ran out.
+    NoMemory,
+}
+
+/// Reads to the end of the input, or until `most` bytes are there.
+///
+/// # Errors
+///
+/// `Failed` where a read failed, and `NoMemory`; the bytes read so far are lost then.
+pub fn read_all<S: Source>(
+    alloc: Global,
+    source: &mut S,
+    most: usize,
+) -> Result<Vec<u8>, ReadRefused>
+    ensures within { IfOk result (λ bytes. vec_len bytes ≤ most) }
+    ensures taken { IfOk result (λ bytes. Consumes (S.left source.old) (S.left source.new) bytes.items) }
+    ensures at_end { IfOk result (λ bytes. vec_len bytes < most → IsAtEnd (S.left source.new)) }
+    ensures ended { IfOk result (λ bytes. vec_len bytes < most → IsTrue (S.ended source.new)) }
+    ensures lost { OnErr result (LosesPrefix (S.left source.old) (S.left source.new)) }
+    ensures later { S.faults source.old ≤ S.faults source.new }
+    ensures failed { result ≡ Err ReadRefused.Failed → Rose (S.faults source.old) (S.faults source.new) }
+{
+    let mut taken: Vec<u8> = Vec::new(alloc);
+    let mut piece = [0u8; 8192];
+    'reading: while taken.len() < most {
+        let room = (most - taken.len()).min(8192);
+        let count = match source.read(&mut piece[..room]) {
+            Ok(count) => count,
+            Err(Failed) => return Err(ReadRefused::Failed),
+        };
+        if count == 0 {
+            break;
+        }
+        match taken.extend_from_slice(&piece[..count]) {
+            Ok(()) => {}
+            Err(_) => return Err(ReadRefused::NoMemory),
+        }
+    }
+    Ok(taken)
+}
