@@ -1,0 +1,9 @@
+pub mod ListFacts
+pub mod TextFacts
+pub mod RideFacts
+pub mod Parts
+pub mod BookFacts
+pub mod StartFacts
+pub mod RecordFacts
+pub mod WantedFacts
+pub mod Falls

@@ -1,0 +1,123 @@
+-- Rides go forward in time, end by the last moment, and call at stops of their region.
+use Rattle.std.proofs.Common.{◌≡◌, ℕ, suc, zero, ◌<◌, ◌≤◌, List, [], ◌∷◌, ◌++◌, Option, Some, None, refl, sym, ap, subst, inl, inr, arith}
+use Rattle.std.specs.List.{slice_get}
+use Rattle.ojp_values.specs.Lists.{Among}
+use Rattle.ojp_values.specs.Texts.{Text}
+use Rattle.ojp_values.specs.declared.trips.Leg.{Leg}
+use Rattle.ojp_timetable.specs.Tables.{Timetable, Call}
+use Rattle.ojp_timetable.specs.Runs.{last_moment, moment, IsLeg, NotBefore, latest, NoneFalls, IsOffset, IsOfRegion, IsWellCall, IsWell}
+use Rattle.ojp_timetable.specs.Journeys.{Follows, GoesOn, Leads}
+
+among_slice_get : {X : Type 0} (xs : List X) (i : ℕ) (x : X) → slice_get xs i ≡ Some x → Among x xs
+among_slice_get [] i x e = absurd (cc)
+among_slice_get (y ∷ xs) zero x e = let same : y ≡ x = cc in inl (sym same)
+among_slice_get (y ∷ xs) (suc i) x e = inr (among_slice_get xs i x e)
+
+latest_rises : (t : ℕ) (o : Option ℕ) → NotBefore t o → t ≤ latest t o
+latest_rises t None h = omega arith
+latest_rises t (Some u) h = h
+
+latest_at : (t u : ℕ) (o : Option ℕ) → o ≡ Some u → latest t o ≡ u
+latest_at t u o e = ap (latest t) e
+
+comes_later : (t : ℕ) (calls : List Call) (j : ℕ) (call : Call) (comes : ℕ) → NoneFalls t calls → slice_get calls j ≡ Some call → call.arrives ≡ Some comes → t ≤ comes
+comes_later t [] j call comes falls at arrives = absurd (cc)
+comes_later t (first ∷ calls) zero call comes falls at arrives =
+    let same : first.arrives ≡ Some comes = cc in
+    subst (NotBefore t) same falls.0
+comes_later t (first ∷ calls) (suc j) call comes falls at arrives =
+    let later : latest (latest t first.arrives) first.departs ≤ comes = comes_later _ calls j call comes falls.2 at arrives in
+    let rises : t ≤ latest t first.arrives = latest_rises t first.arrives falls.0 in
+    let again : latest t first.arrives ≤ latest (latest t first.arrives) first.departs = latest_rises (latest t first.arrives) first.departs falls.1 in
+    omega arith
+
+ride_forward :
+    (t : ℕ) (calls : List Call) (i j : ℕ) (board alight : Call) (leaves comes : ℕ)
+    → NoneFalls t calls → i < j → slice_get calls i ≡ Some board → slice_get calls j ≡ Some alight
+    → board.departs ≡ Some leaves → alight.arrives ≡ Some comes → leaves ≤ comes
+ride_forward t [] i j board alight leaves comes falls later at to departs arrives = absurd (cc)
+ride_forward t (first ∷ calls) zero zero board alight leaves comes falls later at to departs arrives = absurd (omega arith)
+ride_forward t (first ∷ calls) zero (suc j) board alight leaves comes falls later at to departs arrives =
+    let same : first.departs ≡ Some leaves = cc in
+    let seen : latest (latest t first.arrives) first.departs ≡ leaves = latest_at (latest t first.arrives) leaves first.departs same in
+    let after : latest (latest t first.arrives) first.departs ≤ comes = comes_later _ calls j alight comes falls.2 to arrives in
+    omega arith
+ride_forward t (first ∷ calls) (suc i) zero board alight leaves comes falls later at to departs arrives = absurd (omega arith)
+ride_forward t (first ∷ calls) (suc i) (suc j) board alight leaves comes falls later at to departs arrives =
+    ride_forward _ calls i j board alight leaves comes falls.2 (omega arith) at to departs arrives
+
+pub leg_region : (table : Timetable) (leg : Leg) → IsLeg table leg → leg.region ≡ table.region
+leg_region table leg ride = ap (λ (it : Leg). it.region) ride.is
+
+moment_forward : (table : Timetable) (day a b : ℕ) → a ≤ b → moment table day a ≤ moment table day b
+unfolding moment
+moment_forward table day a b h = omega arith
+
+pub leg_forward : (table : Timetable) (leg : Leg) → IsWell table → IsLeg table leg → leg.departs ≤ leg.arrives
+leg_forward table leg well ride =
+    let offsets : ride.leaves ≤ ride.comes =
+    ride_forward 0 ride.journey.calls ride.i ride.j ride.board ride.alight ride.leaves ride.comes (well.times ride.journey ride.of_table) ride.later ride.board_at ride.alight_at ride.leaves_at ride.comes_at in
+    let moments : moment table ride.day ride.leaves ≤ moment table ride.day ride.comes = moment_forward table ride.day ride.leaves ride.comes offsets in
+    let departs : leg.departs ≡ moment table ride.day ride.leaves = ap (λ (it : Leg). it.departs) ride.is in
+    let arrives : leg.arrives ≡ moment table ride.day ride.comes = ap (λ (it : Leg). it.arrives) ride.is in
+    omega arith
+
+moment_bound : (table : Timetable) (day offset : ℕ) → IsWell table → 2 ≤ day → day ≤ 84002 → offset ≤ 129600 → moment table day offset ≤ last_moment
+unfolding moment
+moment_bound table day offset well low high h = omega (arith, well.noons_high day low high)
+
+alight_call : (table : Timetable) (leg : Leg) → IsWell table → (ride : IsLeg table leg) → IsWellCall table ride.alight
+alight_call table leg well ride =
+    well.calls ride.journey ride.of_table ride.alight (among_slice_get ride.journey.calls ride.j ride.alight ride.alight_at)
+
+pub leg_bound : (table : Timetable) (leg : Leg) → IsWell table → IsLeg table leg → leg.arrives ≤ last_moment
+leg_bound table leg well ride =
+    let offset : ride.comes ≤ 129600 = subst IsOffset ride.comes_at (alight_call table leg well ride).arrives in
+    let bound : moment table ride.day ride.comes ≤ last_moment = moment_bound table ride.day ride.comes well ride.runs.low ride.runs.high offset in
+    let arrives : leg.arrives ≡ moment table ride.day ride.comes = ap (λ (it : Leg). it.arrives) ride.is in
+    omega arith
+
+pub leg_alights : (table : Timetable) (leg : Leg) → IsWell table → IsLeg table leg → IsOfRegion table leg.alight
+leg_alights table leg well ride =
+    let stop : leg.alight ≡ ride.alight.stop = ap (λ (it : Leg). it.alight) ride.is in
+    subst (IsOfRegion table) (sym stop) (alight_call table leg well ride).of_region
+
+pub goes_forward : (table : Timetable) (last : Leg) (legs : List Leg) (d : Text) (a : ℕ) → IsWell table → GoesOn table last legs d a → last.arrives ≤ a
+goes_forward table last [] d a well goes = omega arith
+goes_forward table last (leg ∷ legs) d a well goes =
+    let later : leg.arrives ≤ a = goes_forward table leg legs d a well goes.2 in
+    let ride : leg.departs ≤ leg.arrives = leg_forward table leg well goes.0 in
+    let follows : Follows table last.alight last.arrives leg = goes.1 in
+    omega arith
+
+pub leads_forward : (table : Timetable) (o : Text) (t : ℕ) (legs : List Leg) (d : Text) (a : ℕ) → IsWell table → Leads table o t legs d a → (t ≤ a) × (t ≤ last_moment)
+leads_forward table o t [] d a well leads = absurd leads
+leads_forward table o t (leg ∷ legs) d a well leads =
+    let later : leg.arrives ≤ a = goes_forward table leg legs d a well leads.3 in
+    let ride : leg.departs ≤ leg.arrives = leg_forward table leg well leads.0 in
+    let bound : leg.arrives ≤ last_moment = leg_bound table leg well leads.0 in
+    omega arith
+
+goes_to_stop : (table : Timetable) (last : Leg) (legs : List Leg) (d : Text) (a : ℕ) → IsWell table → IsLeg table last → GoesOn table last legs d a → IsOfRegion table d
+goes_to_stop table last [] d a well ride goes = subst (IsOfRegion table) goes.0 (leg_alights table last well ride)
+goes_to_stop table last (leg ∷ legs) d a well ride goes = goes_to_stop table leg legs d a well goes.0 goes.2
+
+pub leads_to_stop : (table : Timetable) (o : Text) (t : ℕ) (legs : List Leg) (d : Text) (a : ℕ) → IsWell table → Leads table o t legs d a → IsOfRegion table d
+leads_to_stop table o t [] d a well leads = absurd leads
+leads_to_stop table o t (leg ∷ legs) d a well leads = goes_to_stop table leg legs d a well leads.0 leads.3
+
+-- waiting is always allowed
+pub leads_earlier : (table : Timetable) (o : Text) (s t : ℕ) (legs : List Leg) (d : Text) (a : ℕ) → s ≤ t → Leads table o t legs d a → Leads table o s legs d a
+leads_earlier table o s t [] d a h leads = absurd leads
+leads_earlier table o s t (leg ∷ legs) d a h leads = (leads.0, leads.1, omega arith, leads.3)
+
+goes_more : (table : Timetable) (last : Leg) (legs : List Leg) (d : Text) (a : ℕ) (leg : Leg) → IsLeg table leg → Follows table d a leg → GoesOn table last legs d a → GoesOn table last (legs ++ leg ∷ []) leg.alight leg.arrives
+goes_more table last [] d a leg ride follows goes =
+    let at : Follows table last.alight a leg = subst (λ (stop : Text). Follows table stop a leg) (sym goes.0) follows in
+    (ride, subst (λ (n : ℕ). Follows table last.alight n leg) (sym goes.1) at, (refl, refl))
+goes_more table last (next ∷ legs) d a leg ride follows goes = (goes.0, goes.1, goes_more table next legs d a leg ride follows goes.2)
+
+-- one more ride of the region may follow
+pub leads_more : (table : Timetable) (o : Text) (t : ℕ) (legs : List Leg) (d : Text) (a : ℕ) (leg : Leg) → IsLeg table leg → Follows table d a leg → Leads table o t legs d a → Leads table o t (legs ++ leg ∷ []) leg.alight leg.arrives
+leads_more table o t [] d a leg ride follows leads = absurd leads
+leads_more table o t (first ∷ legs) d a leg ride follows leads = (leads.0, leads.1, leads.2, goes_more table first legs d a leg ride follows leads.3)

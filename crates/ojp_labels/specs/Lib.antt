@@ -1,0 +1,5 @@
+pub mod Records
+pub mod Starts
+pub mod Wanted
+pub mod Ends
+pub mod Headline

@@ -1,0 +1,2 @@
+//! Links to regions: which replies fit an ask.
+#![tactic(auto)]
