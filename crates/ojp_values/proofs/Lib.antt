@@ -1,3 +1,5 @@
 pub mod Padding
 pub mod Colons
 pub mod Unicode
+pub mod Numerals
+pub mod Escapes

@@ -1,3 +1,5 @@
+pub mod Escapes
 pub mod Limits
 pub mod Lists
+pub mod Numbers
 pub mod Texts
