@@ -1,5 +1,9 @@
 pub mod Causes
+pub mod Connections
+pub mod Doors
 pub mod Files
 pub mod Known
 pub mod Memory
+pub mod MemoryDoors
 pub mod Planned
+pub mod Wanted

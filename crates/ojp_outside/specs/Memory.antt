@@ -30,3 +30,9 @@ pub record StoreView : Type 0 where
   pub fails_at : List ℕ
   pub calls : ℕ
   pub faults : ℕ
+
+-- a clock: its moments, the place of the one that it gives next, and the one that it gave last
+pub record ClockView : Type 0 where
+  pub moments : List ℕ
+  pub at : ℕ
+  pub last : ℕ

@@ -46,6 +46,20 @@ impl MemSource {
             ended: false,
         }
     }
+
+    /// The bytes that are left.
+    pub fn left(&self) -> &[u8]
+        ensures { result.now ≡ self.now.left }
+    {
+        &self.bytes[self.at..]
+    }
+
+    /// How many reads failed.
+    pub fn faults(&self) -> u64
+        ensures { result ≡ self.now.faults }
+    {
+        self.plan.faults
+    }
 }
 
 /// Copies as many bytes as both hold, and at most `most`.

@@ -40,6 +40,13 @@ impl Plan {
         is_planned
     }
 
+    /// Counts a call that does not fail.
+    pub fn count_call(&mut self)
+        ensures { self.new ≡ record self.old { calls = next_count self.old.calls } }
+    {
+        self.calls = self.calls.saturating_add(1);
+    }
+
     /// Counts a fault.
     pub fn count_fault(&mut self)
         ensures counted { self.new ≡ record self.old { faults = next_count self.old.faults } }

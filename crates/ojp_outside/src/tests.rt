@@ -2,6 +2,7 @@
 use crate::*;
 use std::fs;
 use std::io::Cursor;
+use std::net::TcpStream;
 use std::test::Fail;
 
 #[test]
@@ -98,5 +99,63 @@ fn a_file_is_read_whole_and_a_missing_one_fails(rt: HostRuntime) -> Result<(), F
         store.read_file(alloc, "b.tt").err(),
         Some(StoreRefused::Failed)
     );
+    Ok(())
+}
+
+#[test]
+fn doors_in_memory_give_as_many_connections_as_were_asked_for(rt: HostRuntime) -> Result<(), Fail> {
+    let alloc = rt.alloc();
+    let mut connections = Vec::new(alloc);
+    for text in ["one", "two", "three"] {
+        let bytes = Vec::from_slice(alloc, text.as_bytes())?;
+        connections.push(MemSource::new(bytes, 8, Vec::new(alloc)))?;
+    }
+    let mut doors = MemDoors::new(alloc, connections, Vec::from_slice(alloc, &[2])?)?;
+    assert_eq!(rt; doors.listen(80, Some(1)), Ok(()));
+    assert_eq!(rt; doors.next().err(), Some(DoorRefused::Failed));
+    match doors.next() {
+        Ok((mut input, mut output)) => {
+            let bytes = read_all(alloc, &mut input, 9)?;
+            assert_eq!(rt; bytes.as_slice(), b"one".as_slice());
+            put_all(&mut output, b"answer")?;
+            doors.back(input, output);
+        }
+        Err(_) => assert!(rt; false),
+    }
+    assert_eq!(rt; doors.next().err(), Some(DoorRefused::Closed));
+    Ok(())
+}
+
+#[test]
+fn clocks_never_go_back(rt: HostRuntime) -> Result<(), Fail> {
+    let alloc = rt.alloc();
+    let mut clock = MemClock::new(Vec::from_slice(alloc, &[4, 4, 9])?);
+    let mut told = [0u64; 4];
+    for moment in told.iter_mut() {
+        *moment = clock.now();
+    }
+    assert_eq!(rt; told, [4, 4, 9, 9]);
+    let mut clock = StdClock::new(rt.clone()?);
+    let first = clock.now();
+    assert!(rt; first > 0 && first <= clock.now());
+    Ok(())
+}
+
+#[test]
+fn tcp_doors_listen_on_this_machine(rt: HostRuntime) -> Result<(), Fail> {
+    let alloc = rt.alloc();
+    let mut doors = TcpDoors::new(rt.clone()?);
+    assert_eq!(rt; doors.listen(47613, Some(1)), Ok(()));
+    let mut peer = StdSink::new(TcpStream::connect(&rt, "127.0.0.1:47613")?);
+    put_all(&mut peer, b"ask")?;
+    match doors.next() {
+        Ok((mut input, output)) => {
+            let bytes = read_all(alloc, &mut input, 3)?;
+            assert_eq!(rt; bytes.as_slice(), b"ask".as_slice());
+            doors.back(input, output);
+        }
+        Err(_) => assert!(rt; false),
+    }
+    assert_eq!(rt; doors.next().err(), Some(DoorRefused::Closed));
     Ok(())
 }
