@@ -10,7 +10,7 @@ use Rattle.ojp_timetable.specs.Journeys.{Declares}
 use Rattle.ojp_timetable.specs.Rows.{AreTables}
 use Rattle.ojp_exchange.specs.Book.{Spot, Link, Book, HasLink, IsBookOf, HasReturn, IsAgreed, has_region, is_home, serves, is_declared, leads_out, HasChange}
 use Rattle.ojp_labels.proofs.ListFacts.{Member, among_list_any, among_list_any_back}
-use Rattle.ojp_labels.proofs.TextFacts.{same_is, is_same}
+use Rattle.ojp_timetable.proofs.TextFacts.{same_is, is_same}
 
 pub is_region : (book : Book) (code : Text) → Among code book.codes → has_region book code ≡ true
 unfolding has_region
@@ -23,7 +23,7 @@ region_is book code e =
     subst (λ (x : Text). Among x book.codes) (sym (same_is code m.item m.holds)) m.among
 
 -- the spot that declares the stop for the region
-pub SpotOf : Book → Text → Text → Type 0
+abbrev pub SpotOf : Book → Text → Text → Type 0
 SpotOf book region stop = Member book.spots (λ (spot : Spot). (spot.region ≡ region) × (spot.stop ≡ stop))
 
 pub serves_home : (book : Book) (region stop : Text) → home stop ≡ Some region → serves book region stop ≡ true
@@ -42,7 +42,7 @@ home_is region None e = absurd (true≢false (sym e))
 home_is region (Some code) e = ap Some (sym (same_is region code e))
 
 pub serves_cases : (book : Book) (region stop : Text) → serves book region stop ≡ true → (home stop ≡ Some region) ⊎ SpotOf book region stop
-unfolding serves SpotOf
+unfolding serves
 serves_cases book region stop e =
     elim (or_cases (is_home region (home stop)) _ e) [
       | inl own ↦ inl (home_is region (home stop) own)
@@ -78,12 +78,11 @@ spot_of : Text → Point → Spot
 spot_of region point = record { stop = point.stop; region = region; change = point.change }
 
 pub spot_listed : (tables : List Timetable) (book : Book) (table : Timetable) (point : Point) → IsBookOf tables book → Among table tables → Among point table.points → SpotOf book table.region point.stop
-unfolding SpotOf spot_of
+unfolding spot_of
 spot_listed tables book table point book_of h listed =
     record { item = spot_of table.region point; among = (book_of.spots (spot_of table.region point)).1 (table, h, refl, (point, listed, refl, refl)); holds = (refl, refl) }
 
 pub region_served : (tables : List Timetable) (book : Book) (table : Timetable) (stop : Text) → IsBookOf tables book → Among table tables → IsOfRegion table stop → serves book table.region stop ≡ true
-unfolding SpotOf
 region_served tables book table stop book_of h (inl own) = serves_home book table.region stop own
 region_served tables book table stop book_of h (inr (point, listed, at)) =
     let spot : SpotOf book table.region point.stop = spot_listed tables book table point book_of h listed in
@@ -94,17 +93,16 @@ link_of : Text → Text → Text → ℕ → Link
 link_of stop region other change = record { stop = stop; region = region; other = other; change = change }
 
 -- the link that a declaration makes
-pub LinkOf : Book → Text → Text → Text → ℕ → Type 0
+abbrev pub LinkOf : Book → Text → Text → Text → ℕ → Type 0
 LinkOf book stop region other change =
     Member book.links (λ (link : Link). (link.stop ≡ stop) × (link.region ≡ region) × (link.other ≡ other) × (link.change ≡ change))
 
 pub link_listed : (tables : List Timetable) (book : Book) (table : Timetable) (stop other : Text) (change : ℕ) → IsBookOf tables book → Among table tables → Declares table stop other change → LinkOf book stop table.region other change
-unfolding LinkOf link_of
+unfolding link_of
 link_listed tables book table stop other change book_of h declares =
     record { item = link_of stop table.region other change; among = (book_of.links (link_of stop table.region other change)).1 (table, h, refl, declares); holds = (refl, refl, refl, refl) }
 
 pub change_listed : (tables : List Timetable) (book : Book) (left right : Timetable) (stop : Text) (change : ℕ) → IsBookOf tables book → Among left tables → Among right tables → Declares right stop left.region change → HasChange book stop left.region right.region change
-unfolding LinkOf
 change_listed tables book left right stop change book_of of_left of_right declares =
     let link : LinkOf book stop right.region left.region change = link_listed tables book right stop left.region change book_of of_right declares in
     record {
@@ -118,7 +116,6 @@ change_listed tables book left right stop change book_of of_left of_right declar
     }
 
 pub leads_out_listed : (tables : List Timetable) (book : Book) (left right : Timetable) (stop : Text) (change : ℕ) → IsBookOf tables book → Among left tables → Among right tables → Declares left stop right.region change → leads_out book left.region stop ≡ true
-unfolding LinkOf
 leads_out_listed tables book left right stop change book_of of_left of_right declares =
     let link : LinkOf book stop left.region right.region change = link_listed tables book left stop right.region change book_of of_left declares in
     let known : Among link.item.other book.codes = subst (λ (code : Text). Among code book.codes) (sym link.holds.2) (code_listed tables book right book_of of_right) in

@@ -1,9 +1,10 @@
 pub mod ListFacts
-pub mod TextFacts
-pub mod RideFacts
 pub mod Parts
 pub mod BookFacts
 pub mod StartFacts
 pub mod RecordFacts
 pub mod WantedFacts
 pub mod Falls
+pub mod Sound
+pub mod Complete
+pub mod EndFacts

@@ -15,7 +15,7 @@ use Rattle.ojp_labels.specs.declared.queries.Entry.{Entry}
 use Rattle.ojp_labels.specs.Records.{same_query, is_told, has_reply, is_failed, Failed}
 use Rattle.ojp_labels.specs.Wanted.{PlaceState, Unheard, CheckLost, state_of_reply, state_from, IsOpen, ToldInTurn}
 use Rattle.ojp_labels.proofs.ListFacts.{Member, member_first, member_later, among_append_left, among_append_right, among_list_any, among_list_any_back}
-use Rattle.ojp_labels.proofs.TextFacts.{same_is, is_same}
+use Rattle.ojp_timetable.proofs.TextFacts.{same_is, is_same}
 
 pub same_query_is : (p q : Query) → same_query p q ≡ true → p ≡ q
 same_query_is (Check r s) (Check r' s') e =
@@ -41,11 +41,11 @@ pub is_same_query : (p q : Query) → p ≡ q → same_query p q ≡ true
 is_same_query p q e = subst (λ (x : Query). same_query p x ≡ true) e (query_itself p)
 
 -- an entry of the query
-pub EntryOf : List Entry → Query → Type 0
+abbrev pub EntryOf : List Entry → Query → Type 0
 EntryOf told query = Member told (λ (entry : Entry). entry.query ≡ query)
 
 pub told_is : (told : List Entry) (query : Query) → is_told told query ≡ true → EntryOf told query
-unfolding is_told EntryOf
+unfolding is_told
 told_is told query e =
     let m : Member told (λ (entry : Entry). same_query entry.query query ≡ true) = among_list_any_back (λ (entry : Entry). same_query entry.query query) told e in
     record { item = m.item; among = m.among; holds = same_query_is m.item.query query m.holds }
@@ -55,7 +55,6 @@ unfolding is_told
 is_told_is told entry query listed e = among_list_any (λ (it : Entry). same_query it.query query) entry told listed (is_same_query entry.query query e)
 
 pub told_more : (told more : List Entry) (query : Query) → is_told told query ≡ true → is_told (told ++ more) query ≡ true
-unfolding EntryOf
 told_more told more query e =
     let m : EntryOf told query = told_is told query e in
     is_told_is (told ++ more) m.item query (among_append_left m.item told more m.among) m.holds
@@ -93,11 +92,10 @@ reply_heard (Some (deliveries.Events (events_replies.Fault (StopUnknown stop))))
 reply_heard (Some reply) e = cc
 
 -- an entry of the query, whose reply tells the state
-pub Tells : List Entry → Query → PlaceState → Type 0
+abbrev pub Tells : List Entry → Query → PlaceState → Type 0
 Tells told query s = Member told (λ (entry : Entry). (entry.query ≡ query) × (state_of_reply entry.reply ≡ s))
 
 state_told_step : (entry : Entry) (told : List Entry) (query : Query) (s : PlaceState) (b : Bool) → same_query entry.query query ≡ b → cond b (state_of_reply entry.reply) (state_from told query) ≡ s → (state_from told query ≡ s → Tells told query s) → Tells (entry ∷ told) query s
-unfolding Tells
 state_told_step entry told query s true same_one e later = member_first entry told _ (same_query_is entry.query query same_one, e)
 state_told_step entry told query s false other e later = member_later entry told _ (later e)
 

@@ -13,7 +13,7 @@ use Rattle.ojp_exchange.specs.Book.{Book, Spot, Link, HasChange, has_region, ser
 use Rattle.ojp_labels.specs.declared.queries.Entry.{Entry}
 use Rattle.ojp_labels.specs.Starts.{is_way_on, served_target, targets, Arrival, arrivals_of, heard_at, is_within, arrivals, is_change, may_change, starts_after, asked_start, known_starts, moment_of, is_at_target, best}
 use Rattle.ojp_labels.proofs.ListFacts.{Member, LeastBelow, among_append, among_append_left, among_append_right, among_map, among_map_back, among_filter, among_filter_back, among_flat_map, among_flat_map_back, least_below, least_among}
-use Rattle.ojp_labels.proofs.TextFacts.{same_is, is_same, differ_is, is_differ}
+use Rattle.ojp_timetable.proofs.TextFacts.{same_is, is_same, differ_is, is_differ}
 use Rattle.ojp_labels.proofs.BookFacts.{is_region, region_is}
 
 -- what a choice by a test gives where it gives something

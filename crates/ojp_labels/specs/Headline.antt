@@ -8,8 +8,7 @@ use Rattle.ojp_values.specs.declared.replies.Fault.{Fault}
 use Rattle.ojp_values.specs.declared.replies.Fault.TheVariants.{SameStop, StopUnknown, NoTrip, RegionFailed, NotServed}
 use Rattle.ojp_values.specs.declared.replies.Delivery.{Delivery}
 use Rattle.ojp_timetable.specs.Tables.{Timetable, has}
-use Rattle.ojp_timetable.specs.Journeys.{Arrives}
-use Rattle.ojp_timetable.specs.Rows.{AreTables}
+use Rattle.ojp_timetable.specs.Rows.{AreTables, ArrivesByRows}
 use Rattle.ojp_timetable.specs.Answers.{RegionAnswers}
 use Rattle.ojp_exchange.specs.Book.{Book, IsBookOf, IsAgreed}
 use Rattle.ojp_labels.specs.declared.queries.Query.{Query}
@@ -49,11 +48,11 @@ IsPlace tables stop = IsPlaceBy tables stop (home stop)
 
 -- no united journey leads from the origin to the target
 abbrev pub HasNoJourney : List Timetable → TripAsk → Type 0
-HasNoJourney tables ask = (a : ℕ) → Arrives tables ask.origin ask.start ask.target a → ⊥
+HasNoJourney tables ask = (a : ℕ) → ArrivesByRows tables ask.origin ask.start ask.target a → ⊥
 
 -- the arrival is the earliest of all united journeys
 abbrev pub IsEarliest : List Timetable → TripAsk → ℕ → Type 0
-IsEarliest tables ask arrival = Earliest (Arrives tables ask.origin ask.start ask.target) arrival
+IsEarliest tables ask arrival = Earliest (ArrivesByRows tables ask.origin ask.start ask.target) arrival
 
 -- both places are known, there is no journey, and no failure stands
 pub record NoTripIsRight (tables : List Timetable) (book : Book) (ask : TripAsk) (told : List Entry) (stop : Text) : Type 0 where

@@ -53,6 +53,10 @@ UnitedByRows tables o t d a (leg ∷ legs) =
     (o ≢ d) × (a ≤ t + day_long) × ((table : Timetable) × IsOf tables leg table) × (leg.board ≡ o) × (t ≤ leg.departs)
     × AllFollow tables leg legs × EndsAt leg legs d a × Each LeadsElsewhere (rows_from leg leg legs)
 
+-- some united journey arrives at a, in flat words
+abbrev pub ArrivesByRows : List Timetable → Text → ℕ → Text → ℕ → Type 0
+ArrivesByRows tables o t d a = (legs : List Leg) × UnitedByRows tables o t d a legs
+
 -- the timetables are well, and have a code of their own each
 pub record AreTables (tables : List Timetable) : Type 0 where
   pub well : (table : Timetable) → Among table tables → IsWell table

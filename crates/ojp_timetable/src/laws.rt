@@ -1,6 +1,7 @@
 //! Laws of the definitions, each the contract of a function with nothing to do.
 
 ghost use Rattle.ojp_timetable.specs.Examples.{RideIsAJourney, FaultsAreNamed};
+ghost use Rattle.ojp_timetable.specs.Rows.{RowsAgree};
 
 /// A ride of a small timetable is a journey of its region, and of the regions together.
 pub fn ride_is_a_journey()
@@ -10,4 +11,9 @@ pub fn ride_is_a_journey()
 /// The faults that a region answers with, by a small timetable.
 pub fn faults_are_named()
     ensures { FaultsAreNamed }
+{}
+
+/// A united journey that is told by its flat rules, or by what may come next, is the same.
+pub fn rows_agree()
+    ensures { RowsAgree }
 {}

@@ -82,6 +82,13 @@ leg_alights table leg well ride =
     let stop : leg.alight ≡ ride.alight.stop = ap (λ (it : Leg). it.alight) ride.is in
     subst (IsOfRegion table) (sym stop) (alight_call table leg well ride).of_region
 
+pub leg_boards : (table : Timetable) (leg : Leg) → IsWell table → IsLeg table leg → IsOfRegion table leg.board
+leg_boards table leg well ride =
+    let call : IsWellCall table ride.board =
+    well.calls ride.journey ride.of_table ride.board (among_slice_get ride.journey.calls ride.i ride.board ride.board_at) in
+    let stop : leg.board ≡ ride.board.stop = ap (λ (it : Leg). it.board) ride.is in
+    subst (IsOfRegion table) (sym stop) call.of_region
+
 pub goes_forward : (table : Timetable) (last : Leg) (legs : List Leg) (d : Text) (a : ℕ) → IsWell table → GoesOn table last legs d a → last.arrives ≤ a
 goes_forward table last [] d a well goes = omega arith
 goes_forward table last (leg ∷ legs) d a well goes =
