@@ -116,7 +116,7 @@ was_told tables book ask told pair start settled listed matters =
     ]
 
 -- the results of a fitting reply are those that the region answers
-results_of :
+pub results_of :
     (table : Timetable) (ask : MultiAsk) (found : List TripResult) (fault : Option Fault)
     → MultiOutcome fault table ask (deliveries.Multi (multi_replies.Results found)) → Pairwise (TargetAnswered table ask.origin ask.start) ask.targets found
 results_of table ask found (Some fault) outcome = absurd (cc)
