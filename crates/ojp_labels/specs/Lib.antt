@@ -3,3 +3,4 @@ pub mod Starts
 pub mod Wanted
 pub mod Ends
 pub mod Headline
+pub mod Examples

@@ -1,6 +1,7 @@
 //! What a search knows: the record of its queries and replies, and the laws of what it may conclude.
 #![tactic(auto)]
 
+pub mod examples;
 pub mod laws;
 pub mod queries;
 

@@ -1,0 +1,247 @@
+-- Small networks: what a search wants at each step of a record, the best arrival and the end.
+-- All moments are of 2024-05-06, in UTC; a region needs 300 seconds for a change from another one, unless said otherwise.
+use Rattle.std.specs.Prelude.{◌≡◌, ℕ, ◌+◌, ◌-◌, ◌*◌, List, [], ◌∷◌, ◌++◌, Some, None, codes}
+use Rattle.ojp_values.specs.Texts.{Text}
+use Rattle.ojp_values.specs.declared.asks.TripAsk.{TripAsk}
+use Rattle.ojp_values.specs.declared.replies.Fault.TheVariants.{RegionFailed}
+use Rattle.ojp_values.specs.declared.replies.TripResult.{TripResult}
+use Rattle.ojp_values.specs.declared.replies.TripResult.TheVariants as results
+use Rattle.ojp_values.specs.declared.replies.MultiReply.TheVariants as multi_replies
+use Rattle.ojp_values.specs.declared.replies.EventsReply.TheVariants as events_replies
+use Rattle.ojp_values.specs.declared.replies.Delivery.TheVariants as deliveries
+use Rattle.ojp_exchange.specs.Book.{Book, Spot, Link}
+use Rattle.ojp_labels.specs.declared.queries.Query.TheVariants.{Check, Reach}
+use Rattle.ojp_labels.specs.declared.queries.Entry.{Entry}
+use Rattle.ojp_labels.specs.Starts.{best}
+use Rattle.ojp_labels.specs.Wanted.{wanted, IsRecord}
+use Rattle.ojp_labels.specs.Ends.{fault}
+
+abbrev pub at : ℕ → ℕ → ℕ
+at hours minutes = 1714953600 + (hours * 3600 + minutes * 60)
+
+abbrev pub code_aa : Text
+code_aa = codes "AA"
+
+abbrev pub code_bb : Text
+code_bb = codes "BB"
+
+abbrev pub code_cc : Text
+code_cc = codes "CC"
+
+abbrev pub point_p : Text
+point_p = codes "x:P"
+
+abbrev pub point_q : Text
+point_q = codes "x:Q"
+
+abbrev pub start_stop : Text
+start_stop = codes "AA:a"
+
+abbrev pub spot : Text → Text → Spot
+spot stop region = record { stop = stop; region = region; change = 60 }
+
+abbrev pub link : Text → Text → Text → ℕ → Link
+link stop region other change = record { stop = stop; region = region; other = other; change = change }
+
+-- a trip of one ride
+abbrev pub by_ride : Text → Text → Text → ℕ → Text → ℕ → TripResult
+by_ride region journey board departs alight arrives =
+    results.Trip (record {
+      duration = arrives - departs;
+      start = departs;
+      end = arrives;
+      transfers = 0;
+      legs = record {
+        region = region;
+        journey = journey;
+        line = codes "L";
+        day = 19849;
+        board = board;
+        board_name = codes "a";
+        departs = departs;
+        alight = alight;
+        alight_name = codes "b";
+        arrives = arrives;
+      } ∷ [];
+    })
+
+-- the region has the stop
+abbrev pub known : Text → Text → Entry
+known region stop = record { query = Check region stop; reply = Some (deliveries.Events (events_replies.Events [])) }
+
+-- the region replied with these results
+abbrev pub heard : Text → Text → ℕ → List TripResult → Entry
+heard region stop start found = record { query = Reach region stop start; reply = Some (deliveries.Multi (multi_replies.Results found)) }
+
+-- the query failed
+abbrev pub lost : Text → Text → ℕ → Entry
+lost region stop start = record { query = Reach region stop start; reply = None }
+
+-- x:P is shared by AA, BB and CC, and x:Q by AA and BB; CC needs so much for a change at x:P from AA and from BB
+abbrev pub three_regions : ℕ → ℕ → Book
+three_regions from_aa from_bb =
+    record {
+      codes = code_aa ∷ code_bb ∷ code_cc ∷ [];
+      spots = spot point_p code_aa ∷ spot point_p code_bb ∷ spot point_p code_cc ∷ spot point_q code_aa ∷ spot point_q code_bb ∷ [];
+      links = link point_p code_aa code_bb 300 ∷ link point_p code_aa code_cc 300 ∷ link point_p code_bb code_aa 300 ∷ link point_p code_bb code_cc 300
+          ∷ link point_p code_cc code_aa from_aa ∷ link point_p code_cc code_bb from_bb ∷ link point_q code_aa code_bb 300 ∷ link point_q code_bb code_aa 300 ∷ [];
+    }
+
+-- The later arrival wins. By AA a traveller is at x:P at 10:00, and by way of x:Q and BB at 10:05; but CC needs 900
+-- seconds from AA and 60 from BB, so only the later one reaches the ride of CC at 10:06.
+
+abbrev pub to_cc : TripAsk
+to_cc = record { origin = start_stop; start = at 8 55; target = codes "CC:z" }
+
+abbrev pub slow_change : Book
+slow_change = three_regions 900 60
+
+abbrev pub places_known : List Entry
+places_known = known code_aa start_stop ∷ known code_cc (codes "CC:z") ∷ []
+
+abbrev pub both_points : List Entry
+both_points =
+    places_known
+    ++ heard code_aa start_stop (at 8 55) (by_ride code_aa (codes "J1") start_stop (at 9 0) point_p (at 10 0) ∷ by_ride code_aa (codes "J2") start_stop (at 9 0) point_q (at 9 20) ∷ []) ∷ []
+
+abbrev pub slow_to_p : Entry
+slow_to_p = heard code_bb point_q (at 9 25) (by_ride code_bb (codes "K1") point_q (at 9 30) point_p (at 10 5) ∷ [])
+
+abbrev pub later_first : List Entry
+later_first =
+    both_points
+    ++ slow_to_p
+    ∷ heard code_cc point_p (at 10 6) (by_ride code_cc (codes "M1") point_p (at 10 6) (codes "CC:z") (at 10 30) ∷ [])
+    ∷ heard code_aa point_p (at 10 10) (results.NoTrip point_q ∷ [])
+    ∷ heard code_bb point_p (at 10 5) (results.NoTrip point_q ∷ [])
+    ∷ []
+
+abbrev pub earlier_first : List Entry
+earlier_first =
+    both_points
+    ++ heard code_bb point_p (at 10 5) (results.NoTrip point_q ∷ [])
+    ∷ heard code_cc point_p (at 10 15) (by_ride code_cc (codes "M2") point_p (at 10 20) (codes "CC:z") (at 10 50) ∷ [])
+    ∷ slow_to_p
+    ∷ heard code_aa point_p (at 10 10) (results.NoTrip point_q ∷ [])
+    ∷ heard code_cc point_p (at 10 6) (by_ride code_cc (codes "M1") point_p (at 10 6) (codes "CC:z") (at 10 30) ∷ [])
+    ∷ []
+
+-- whichever of the two was heard first, the end is the same
+pub record LaterArrivalWins : Type 0 where
+  pub checks : wanted slow_change to_cc [] ≡ Check code_aa start_stop ∷ Check code_cc (codes "CC:z") ∷ []
+  pub origin : wanted slow_change to_cc places_known ≡ Reach code_aa start_stop (at 8 55) ∷ []
+  pub points : wanted slow_change to_cc both_points ≡ Reach code_bb point_p (at 10 5) ∷ Reach code_cc point_p (at 10 15) ∷ Reach code_bb point_q (at 9 25) ∷ []
+  pub superseded : wanted slow_change to_cc (both_points ++ slow_to_p ∷ []) ≡ Reach code_aa point_p (at 10 10) ∷ Reach code_bb point_p (at 10 5) ∷ Reach code_cc point_p (at 10 6) ∷ []
+  pub nothing_more : wanted slow_change to_cc later_first ≡ []
+  pub best_arrival : best slow_change to_cc later_first ≡ Some (at 10 30)
+  pub trip : fault slow_change to_cc later_first ≡ None
+  pub nothing_more_either : wanted slow_change to_cc earlier_first ≡ []
+  pub best_arrival_too : best slow_change to_cc earlier_first ≡ Some (at 10 30)
+  pub trip_too : fault slow_change to_cc earlier_first ≡ None
+
+-- Out and back. From AA:a to AA:z a ride of AA itself arrives at 12:00; by x:P, a ride of BB and x:Q one is there at 10:10.
+
+abbrev pub two_regions : Book
+two_regions =
+    record {
+      codes = code_aa ∷ code_bb ∷ [];
+      spots = spot point_p code_aa ∷ spot point_p code_bb ∷ spot point_q code_aa ∷ spot point_q code_bb ∷ [];
+      links = link point_p code_aa code_bb 300 ∷ link point_p code_bb code_aa 300 ∷ link point_q code_aa code_bb 300 ∷ link point_q code_bb code_aa 300 ∷ [];
+    }
+
+abbrev pub to_aa : TripAsk
+to_aa = record { origin = start_stop; start = at 8 55; target = codes "AA:z" }
+
+abbrev pub own_places : List Entry
+own_places = known code_aa start_stop ∷ known code_aa (codes "AA:z") ∷ []
+
+abbrev pub own_trip : List Entry
+own_trip =
+    own_places
+    ++ heard code_aa start_stop (at 8 55) (by_ride code_aa (codes "J1") start_stop (at 9 0) point_p (at 9 10) ∷ results.NoTrip point_q ∷ by_ride code_aa (codes "J2") start_stop (at 9 0) (codes "AA:z") (at 12 0) ∷ []) ∷ []
+
+abbrev pub out : List Entry
+out = own_trip ++ heard code_bb point_p (at 9 15) (by_ride code_bb (codes "K1") point_p (at 9 20) point_q (at 9 40) ∷ []) ∷ []
+
+abbrev pub back : List Entry
+back = out ++ heard code_aa point_q (at 9 45) (results.NoTrip point_p ∷ by_ride code_aa (codes "J3") point_q (at 9 50) (codes "AA:z") (at 10 10) ∷ []) ∷ []
+
+-- the record was told in turn, and its replies fit
+pub record OutAndBack : Type 0 where
+  pub told_well : IsRecord two_regions to_aa back
+  pub checks : wanted two_regions to_aa [] ≡ Check code_aa start_stop ∷ Check code_aa (codes "AA:z") ∷ []
+  pub origin : wanted two_regions to_aa own_places ≡ Reach code_aa start_stop (at 8 55) ∷ []
+  pub best_by_itself : best two_regions to_aa own_trip ≡ Some (at 12 0)
+  pub point : wanted two_regions to_aa own_trip ≡ Reach code_bb point_p (at 9 15) ∷ []
+  pub return : wanted two_regions to_aa out ≡ Reach code_aa point_q (at 9 45) ∷ []
+  pub nothing_more : wanted two_regions to_aa back ≡ []
+  pub best_arrival : best two_regions to_aa back ≡ Some (at 10 10)
+  pub trip : fault two_regions to_aa back ≡ None
+
+-- From an exchange point to another, which three regions share: nothing is checked, and each region is asked.
+
+abbrev pub shared_points : Book
+shared_points =
+    record {
+      codes = code_aa ∷ code_bb ∷ code_cc ∷ [];
+      spots = spot point_p code_aa ∷ spot point_p code_bb ∷ spot point_p code_cc ∷ spot point_q code_aa ∷ spot point_q code_bb ∷ spot point_q code_cc ∷ [];
+      links = link point_p code_aa code_bb 300 ∷ link point_p code_aa code_cc 300 ∷ link point_p code_bb code_aa 300 ∷ link point_p code_bb code_cc 300 ∷ link point_p code_cc code_aa 300 ∷ link point_p code_cc code_bb 300
+          ∷ link point_q code_aa code_bb 300 ∷ link point_q code_aa code_cc 300 ∷ link point_q code_bb code_aa 300 ∷ link point_q code_bb code_cc 300 ∷ link point_q code_cc code_aa 300 ∷ link point_q code_cc code_bb 300 ∷ [];
+    }
+
+abbrev pub to_point : TripAsk
+to_point = record { origin = point_p; start = at 8 59; target = point_q }
+
+abbrev pub first_heard : List Entry
+first_heard = heard code_bb point_p (at 8 59) (by_ride code_bb (codes "K1") point_p (at 9 5) point_q (at 9 40) ∷ []) ∷ []
+
+abbrev pub all_heard : List Entry
+all_heard =
+    first_heard
+    ++ heard code_aa point_p (at 8 59) (by_ride code_aa (codes "J1") point_p (at 9 0) point_q (at 9 50) ∷ [])
+    ∷ heard code_cc point_p (at 8 59) (by_ride code_cc (codes "M1") point_p (at 9 10) point_q (at 9 45) ∷ [])
+    ∷ []
+
+pub record PointToPoint : Type 0 where
+  pub regions : wanted shared_points to_point [] ≡ Reach code_aa point_p (at 8 59) ∷ Reach code_bb point_p (at 8 59) ∷ Reach code_cc point_p (at 8 59) ∷ []
+  pub others : wanted shared_points to_point first_heard ≡ Reach code_aa point_p (at 8 59) ∷ Reach code_cc point_p (at 8 59) ∷ []
+  pub nothing_more : wanted shared_points to_point all_heard ≡ []
+  pub best_arrival : best shared_points to_point all_heard ≡ Some (at 9 40)
+  pub trip : fault shared_points to_point all_heard ≡ None
+
+-- A failure that is superseded. CC fails at x:P for the start at 10:05, which an arrival at 09:30 then supersedes.
+
+abbrev pub even_change : Book
+even_change = three_regions 300 300
+
+abbrev pub points_heard : List Entry
+points_heard =
+    places_known
+    ++ heard code_aa start_stop (at 8 55) (by_ride code_aa (codes "J1") start_stop (at 9 0) point_p (at 10 0) ∷ by_ride code_aa (codes "J2") start_stop (at 9 0) point_q (at 9 10) ∷ []) ∷ []
+
+abbrev pub failed_once : List Entry
+failed_once = points_heard ++ heard code_bb point_p (at 10 5) (results.NoTrip point_q ∷ []) ∷ lost code_cc point_p (at 10 5) ∷ []
+
+abbrev pub sooner : List Entry
+sooner =
+    failed_once
+    ++ heard code_bb point_q (at 9 15) (by_ride code_bb (codes "K1") point_q (at 9 20) point_p (at 9 30) ∷ []) ∷ heard code_aa point_p (at 9 35) (results.NoTrip point_q ∷ []) ∷ []
+
+abbrev pub superseded : List Entry
+superseded = sooner ++ heard code_cc point_p (at 9 35) (by_ride code_cc (codes "M1") point_p (at 9 40) (codes "CC:z") (at 10 0) ∷ []) ∷ []
+
+abbrev pub failed_again : List Entry
+failed_again = sooner ++ lost code_cc point_p (at 9 35) ∷ []
+
+-- a trip where the second reply comes, and a failure of CC where that fails too
+pub record FailureIsSuperseded : Type 0 where
+  pub points : wanted even_change to_cc points_heard ≡ Reach code_bb point_p (at 10 5) ∷ Reach code_cc point_p (at 10 5) ∷ Reach code_bb point_q (at 9 15) ∷ []
+  pub failed : wanted even_change to_cc failed_once ≡ Reach code_bb point_q (at 9 15) ∷ []
+  pub stands_then : fault even_change to_cc failed_once ≡ Some (RegionFailed code_cc)
+  pub again : wanted even_change to_cc sooner ≡ Reach code_cc point_p (at 9 35) ∷ []
+  pub nothing_more : wanted even_change to_cc superseded ≡ []
+  pub best_arrival : best even_change to_cc superseded ≡ Some (at 10 0)
+  pub trip : fault even_change to_cc superseded ≡ None
+  pub nothing_more_either : wanted even_change to_cc failed_again ≡ []
+  pub no_arrival : best even_change to_cc failed_again ≡ None
+  pub stands : fault even_change to_cc failed_again ≡ Some (RegionFailed code_cc)
