@@ -1,3 +1,4 @@
 pub mod TextFacts
 pub mod RideFacts
 pub mod RowFacts
+pub mod LegCounts

@@ -1,12 +1,12 @@
 -- Journeys of one region and of many regions together. A journey is the list of its legs.
-use Rattle.std.specs.Prelude.{◌≡◌, ◌≢◌, ℕ, ◌+◌, ◌≤◌, List, [], ◌∷◌, ◌⊎◌, Some}
+use Rattle.std.specs.Prelude.{◌≡◌, ◌≢◌, ℕ, ◌+◌, ◌≤◌, List, [], ◌∷◌, ◌⊎◌, Some, length}
 use Rattle.ojp_values.specs.Lists.{Among}
 use Rattle.ojp_values.specs.Texts.{Text}
 use Rattle.ojp_values.specs.declared.trips.Leg.{Leg}
 use Rattle.ojp_values.specs.declared.trips.Point.{Point}
 use Rattle.ojp_values.specs.declared.trips.Neighbour.{Neighbour}
 use Rattle.ojp_timetable.specs.Tables.{Timetable, change_of}
-use Rattle.ojp_timetable.specs.Runs.{IsLeg, day_long}
+use Rattle.ojp_timetable.specs.Runs.{IsLeg, IsWell, day_long}
 
 -- the leg leaves the stop where one arrived at the moment, after the region's change time
 abbrev pub Follows : Timetable → Text → ℕ → Leg → Type 0
@@ -25,6 +25,12 @@ Leads table o t (leg ∷ legs) d a = IsLeg table leg × (leg.board ≡ o) × (t 
 -- a regional journey from o at t to d, which arrives at a within the requested day
 abbrev pub Regional : Timetable → Text → ℕ → Text → ℕ → List Leg → Type 0
 Regional table o t d a legs = (o ≢ d) × (a ≤ t + day_long) × Leads table o t legs d a
+
+-- a regional journey has 1 to 86,401 legs, since each change takes a second at least
+abbrev pub LegsAreBounded : Type 0
+LegsAreBounded =
+    (table : Timetable) → IsWell table → (o : Text) (t : ℕ) (d : Text) (a : ℕ) (legs : List Leg) → Regional table o t d a legs
+    → (1 ≤ length legs) × (length legs ≤ 86401)
 
 -- some regional journey arrives at a
 abbrev pub ArrivesWithin : Timetable → Text → ℕ → Text → ℕ → Type 0

@@ -1,6 +1,7 @@
 //! Laws of the definitions, each the contract of a function with nothing to do.
 
 ghost use Rattle.ojp_timetable.specs.Examples.{RideIsAJourney, FaultsAreNamed};
+ghost use Rattle.ojp_timetable.specs.Journeys.{LegsAreBounded};
 ghost use Rattle.ojp_timetable.specs.Rows.{RowsAgree};
 
 /// A ride of a small timetable is a journey of its region, and of the regions together.
@@ -16,4 +17,9 @@ pub fn faults_are_named()
 /// A united journey that is told by its flat rules, or by what may come next, is the same.
 pub fn rows_agree()
     ensures { RowsAgree }
+{}
+
+/// A journey of one region has no more legs than a document may have.
+pub fn legs_are_bounded()
+    ensures { LegsAreBounded }
 {}
