@@ -4,3 +4,4 @@ pub mod Journeys
 pub mod Rows
 pub mod Answers
 pub mod Examples
+pub mod Bounds

@@ -1,5 +1,6 @@
 //! Laws of the definitions, each the contract of a function with nothing to do.
 
+ghost use Rattle.ojp_timetable.specs.Bounds.{AnswersAreBounded};
 ghost use Rattle.ojp_timetable.specs.Examples.{RideIsAJourney, FaultsAreNamed};
 ghost use Rattle.ojp_timetable.specs.Journeys.{LegsAreBounded};
 ghost use Rattle.ojp_timetable.specs.Rows.{RowsAgree};
@@ -22,4 +23,9 @@ pub fn rows_agree()
 /// A journey of one region has no more legs than a document may have.
 pub fn legs_are_bounded()
     ensures { LegsAreBounded }
+{}
+
+/// The answer of a region to a trip request is within the limits of a document.
+pub fn answers_are_bounded()
+    ensures { AnswersAreBounded }
 {}
