@@ -3,3 +3,4 @@ pub mod Colons
 pub mod Unicode
 pub mod Numerals
 pub mod Escapes
+pub mod Calendar

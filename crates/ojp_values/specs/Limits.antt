@@ -1,7 +1,5 @@
 -- The limits of documents: numbers, and lengths of lists.
 use Rattle.std.specs.Prelude.{ℕ, ◌≤◌, length, All}
-use Rattle.ojp_values.specs.declared.asks.MultiAsk.{MultiAsk}
-use Rattle.ojp_values.specs.declared.asks.EventAsk.{EventAsk}
 use Rattle.ojp_values.specs.declared.asks.Ask.{Ask as Asks}
 use Rattle.ojp_values.specs.declared.asks.Ask.TheVariants as asks
 use Rattle.ojp_values.specs.declared.trips.Trip.{Trip}

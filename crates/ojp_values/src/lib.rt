@@ -5,6 +5,7 @@
 #![tactic(auto)]
 
 pub mod asks;
+pub mod dates;
 pub mod documents;
 mod fixed;
 pub mod kinds;

@@ -1,7 +1,10 @@
 //! Instants and operating days as numbers.
 
 ghost use Rattle.std.specs.Prelude.{◌≡◌, ◌≤◌, ◌↔◌, IsOk, IfOk, IfErr};
+ghost use Rattle.ojp_values.specs.Numbers.{Reads};
+ghost use Rattle.ojp_values.specs.Dates.{moment_text, day_text};
 
+use crate::dates::{clock_digits, day_digits, read_clock, read_day};
 use crate::kinds::{BadText, Kind};
 use std::marker::Model;
 
@@ -46,6 +49,34 @@ impl Instant {
         }
     }
 
+    /// The instant that is written `YYYY-MM-DDThh:mm:ssZ`.
+    pub fn read(text: &[u8]) -> Option<Instant>
+        ensures { Reads (λ n. n ≤ 7_258_118_399) moment_text text.now result }
+    {
+        if text.len() != 20 {
+            return None;
+        }
+        let (date, clock) = text.split_at(10);
+        let day = read_day(date)?;
+        let second = read_clock(clock)?;
+        Some(Instant {
+            seconds: day as u64 * 86_400 + second as u64,
+        })
+    }
+
+    /// The instant as `YYYY-MM-DDThh:mm:ssZ`.
+    pub fn text(self) -> [u8; 20]
+        ensures { result ≡ moment_text self }
+    {
+        let seconds = self.seconds();
+        let date = day_digits((seconds / 86_400) as u32);
+        let clock = clock_digits((seconds % 86_400) as u32);
+        let mut text = [0; 20];
+        text[..10].copy_from_slice(&date);
+        text[10..].copy_from_slice(&clock);
+        text
+    }
+
     /// The seconds since 1970-01-01T00:00:00Z.
     pub fn seconds(self) -> u64
         ensures value { result ≡ self }
@@ -85,6 +116,24 @@ impl Day {
         } else {
             Err(BadText { kind: Kind::Day })
         }
+    }
+
+    /// The day that is written `YYYY-MM-DD`.
+    pub fn read(text: &[u8]) -> Option<Day>
+        ensures { Reads (λ n. (2 ≤ n) × (n ≤ 84_002)) day_text text.now result }
+    {
+        let number = read_day(text)?;
+        match Day::new(number) {
+            Ok(day) => Some(day),
+            Err(_) => None,
+        }
+    }
+
+    /// The day as `YYYY-MM-DD`.
+    pub fn text(self) -> [u8; 10]
+        ensures { result ≡ day_text self }
+    {
+        day_digits(self.number())
     }
 
     /// The days since 1970-01-01.
