@@ -1,1 +1,2 @@
 pub mod ChainFacts
+pub mod OutcomeFacts
