@@ -1,11 +1,12 @@
--- The book: the declarations of a list of timetables, as flat lists.
-use Rattle.std.specs.Prelude.{◌≡◌, ℕ, Bool, false, ◌&&◌, ◌||◌, List, Option, Some, None, ◌↔◌}
+-- The book: what a list of regions declares of its exchange points, as flat lists.
+use Rattle.std.specs.Prelude.{◌≡◌, ℕ, Bool, false, ◌&&◌, ◌||◌, List, map, Option, Some, None, ◌↔◌}
 use Rattle.std.specs.List.{list_any}
 use Rattle.ojp_values.specs.Lists.{Among, IsRising}
 use Rattle.ojp_values.specs.Texts.{Text, same, text_lt, home}
+use Rattle.ojp_values.specs.declared.trips.Neighbour.{Neighbour}
 use Rattle.ojp_values.specs.declared.trips.Point.{Point}
+use Rattle.ojp_exchange.specs.declared.points.RegionPoints.{RegionPoints}
 use Rattle.ojp_timetable.specs.Tables.{Timetable}
-use Rattle.ojp_timetable.specs.Journeys.{Declares}
 
 -- the region declares the exchange point, with its own change time there
 pub record Spot : Type 0 where
@@ -26,20 +27,32 @@ pub record Book : Type 0 where
   pub spots : List Spot
   pub links : List Link
 
--- some timetable has the code
-abbrev pub HasCode : List Timetable → Text → Type 0
-HasCode tables code = (table : Timetable) × Among table tables × (table.region ≡ code)
+-- some list has the code
+abbrev pub HasCode : List RegionPoints → Text → Type 0
+HasCode lists code = (list : RegionPoints) × Among list lists × (list.code ≡ code)
 
--- the timetable of the spot's region has such an exchange point
-abbrev pub HasSpot : List Timetable → Spot → Type 0
-HasSpot tables spot =
-    (table : Timetable) × Among table tables × (table.region ≡ spot.region)
-    × ((point : Point) × Among point table.points × (point.stop ≡ spot.stop) × (point.change ≡ spot.change))
+-- the list of the spot's region has such an exchange point
+pub record HasSpot (lists : List RegionPoints) (spot : Spot) : Type 0 where
+  pub list : RegionPoints
+  pub of_lists : Among list lists
+  pub code : list.code ≡ spot.region
+  pub point : Point
+  pub listed : Among point list.points
+  pub at : point.stop ≡ spot.stop
+  pub time : point.change ≡ spot.change
 
--- the timetable of the link's region declares the other region there
-abbrev pub HasLink : List Timetable → Link → Type 0
-HasLink tables link =
-    (table : Timetable) × Among table tables × (table.region ≡ link.region) × Declares table link.stop link.other link.change
+-- the list of the link's region declares the other region at the point
+pub record HasLink (lists : List RegionPoints) (link : Link) : Type 0 where
+  pub list : RegionPoints
+  pub of_lists : Among list lists
+  pub code : list.code ≡ link.region
+  pub point : Point
+  pub listed : Among point list.points
+  pub at : point.stop ≡ link.stop
+  pub neighbour : Neighbour
+  pub declared : Among neighbour point.neighbours
+  pub other : neighbour.code ≡ link.other
+  pub time : neighbour.change ≡ link.change
 
 -- spots are ordered by stop and region
 abbrev pub spot_lt : Spot → Spot → Bool
@@ -50,14 +63,22 @@ abbrev pub link_lt : Link → Link → Bool
 link_lt x y =
     text_lt x.stop y.stop || (same x.stop y.stop && (text_lt x.region y.region || (same x.region y.region && text_lt x.other y.other)))
 
--- the book holds just what the timetables declare, in rising order
-pub record IsBookOf (tables : List Timetable) (book : Book) : Type 0 where
-  pub codes : (code : Text) → Among code book.codes ↔ HasCode tables code
-  pub spots : (spot : Spot) → Among spot book.spots ↔ HasSpot tables spot
-  pub links : (link : Link) → Among link book.links ↔ HasLink tables link
+-- the book holds just what the lists declare, in rising order
+pub record IsBookOf (lists : List RegionPoints) (book : Book) : Type 0 where
+  pub codes : (code : Text) → Among code book.codes ↔ HasCode lists code
+  pub spots : (spot : Spot) → Among spot book.spots ↔ HasSpot lists spot
+  pub links : (link : Link) → Among link book.links ↔ HasLink lists link
   pub codes_rise : IsRising text_lt book.codes
   pub spots_rise : IsRising spot_lt book.spots
   pub links_rise : IsRising link_lt book.links
+
+-- what the timetable declares
+abbrev pub points_of : Timetable → RegionPoints
+points_of table = record { code = table.region; points = table.points }
+
+-- the book of the timetables: of what they declare
+abbrev pub IsBookOfTables : List Timetable → Book → Type 0
+IsBookOfTables tables book = IsBookOf (map points_of tables) book
 
 -- the link is declared in the other direction too, at the same point
 abbrev pub HasReturn : Book → Link → Type 0

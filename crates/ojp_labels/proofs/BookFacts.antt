@@ -1,5 +1,5 @@
 -- The tests of a book, by what it lists and by what the timetables declare.
-use Rattle.std.proofs.Common.{◌≡◌, ℕ, true, ◌&&◌, ◌⊎◌, List, Option, Some, None, refl, sym, ◌∙◌, ap, subst, inl, inr}
+use Rattle.std.proofs.Common.{◌≡◌, ℕ, true, ◌&&◌, ◌⊎◌, List, map, Option, Some, None, refl, sym, ◌∙◌, ap, subst, inl, inr}
 use Rattle.std.proofs.lemmas.Bool.{true≢false, and_parts, and_from, or_cases, or_left, or_right}
 use Rattle.ojp_values.specs.Lists.{Among}
 use Rattle.ojp_values.specs.Texts.{Text, same, home}
@@ -8,8 +8,9 @@ use Rattle.ojp_timetable.specs.Tables.{Timetable}
 use Rattle.ojp_timetable.specs.Runs.{IsOfRegion}
 use Rattle.ojp_timetable.specs.Journeys.{Declares}
 use Rattle.ojp_timetable.specs.Rows.{AreTables}
-use Rattle.ojp_exchange.specs.Book.{Spot, Link, Book, HasLink, IsBookOf, HasReturn, IsAgreed, has_region, is_home, serves, is_declared, leads_out, HasChange}
-use Rattle.ojp_labels.proofs.ListFacts.{Member, among_list_any, among_list_any_back}
+use Rattle.ojp_exchange.specs.declared.points.RegionPoints.{RegionPoints}
+use Rattle.ojp_exchange.specs.Book.{Spot, Link, Book, HasSpot, HasLink, points_of, IsBookOfTables, HasReturn, IsAgreed, has_region, is_home, serves, is_declared, leads_out, HasChange}
+use Rattle.ojp_labels.proofs.ListFacts.{Member, among_map, among_map_back, among_list_any, among_list_any_back}
 use Rattle.ojp_timetable.proofs.TextFacts.{same_is, is_same}
 
 pub is_region : (book : Book) (code : Text) → Among code book.codes → has_region book code ≡ true
@@ -69,20 +70,78 @@ leads_out_is book link h other =
     among_list_any (λ (it : Link). same link.region it.region && (same link.stop it.stop && has_region book it.other)) link book.links h
     (and_from _ _ (is_same link.region link.region refl) (and_from _ _ (is_same link.stop link.stop refl) (is_region book link.other other)))
 
+-- the spot is declared by a timetable
+pub record SpotTable (tables : List Timetable) (spot : Spot) : Type 0 where
+  pub table : Timetable
+  pub of_tables : Among table tables
+  pub region : table.region ≡ spot.region
+  pub point : Point
+  pub listed : Among point table.points
+  pub at : point.stop ≡ spot.stop
+
+pub spot_table : (tables : List Timetable) (spot : Spot) → HasSpot (map points_of tables) spot → SpotTable tables spot
+spot_table tables spot it =
+    let m : Member tables (λ (table : Timetable). it.list ≡ points_of table) = among_map_back points_of it.list tables it.of_lists in
+    record {
+      table = m.item;
+      of_tables = m.among;
+      region = sym (ap (λ (list : RegionPoints). list.code) m.holds) ∙ it.code;
+      point = it.point;
+      listed = subst (λ (list : RegionPoints). Among it.point list.points) m.holds it.listed;
+      at = it.at;
+    }
+
+-- the link is declared by a timetable
+pub record LinkTable (tables : List Timetable) (link : Link) : Type 0 where
+  pub table : Timetable
+  pub of_tables : Among table tables
+  pub region : table.region ≡ link.region
+  pub declares : Declares table link.stop link.other link.change
+
+pub link_table : (tables : List Timetable) (link : Link) → HasLink (map points_of tables) link → LinkTable tables link
+link_table tables link it =
+    let m : Member tables (λ (table : Timetable). it.list ≡ points_of table) = among_map_back points_of it.list tables it.of_lists in
+    record {
+      table = m.item;
+      of_tables = m.among;
+      region = sym (ap (λ (list : RegionPoints). list.code) m.holds) ∙ it.code;
+      declares = record {
+        point = it.point;
+        of_table = subst (λ (list : RegionPoints). Among it.point list.points) m.holds it.listed;
+        at = it.at;
+        neighbour = it.neighbour;
+        listed = it.declared;
+        code = it.other;
+        time = it.time;
+      };
+    }
+
 -- what the timetables give the book
 
-pub code_listed : (tables : List Timetable) (book : Book) (table : Timetable) → IsBookOf tables book → Among table tables → Among table.region book.codes
-code_listed tables book table book_of h = (book_of.codes table.region).1 (table, h, refl)
+pub code_listed : (tables : List Timetable) (book : Book) (table : Timetable) → IsBookOfTables tables book → Among table tables → Among table.region book.codes
+code_listed tables book table book_of h = (book_of.codes table.region).1 (points_of table, among_map points_of table tables h, refl)
 
 spot_of : Text → Point → Spot
 spot_of region point = record { stop = point.stop; region = region; change = point.change }
 
-pub spot_listed : (tables : List Timetable) (book : Book) (table : Timetable) (point : Point) → IsBookOf tables book → Among table tables → Among point table.points → SpotOf book table.region point.stop
+pub spot_listed : (tables : List Timetable) (book : Book) (table : Timetable) (point : Point) → IsBookOfTables tables book → Among table tables → Among point table.points → SpotOf book table.region point.stop
 unfolding spot_of
 spot_listed tables book table point book_of h listed =
-    record { item = spot_of table.region point; among = (book_of.spots (spot_of table.region point)).1 (table, h, refl, (point, listed, refl, refl)); holds = (refl, refl) }
+    record {
+      item = spot_of table.region point;
+      among = (book_of.spots (spot_of table.region point)).1 (record {
+        list = points_of table;
+        of_lists = among_map points_of table tables h;
+        code = refl;
+        point = point;
+        listed = listed;
+        at = refl;
+        time = refl;
+      });
+      holds = (refl, refl);
+    }
 
-pub region_served : (tables : List Timetable) (book : Book) (table : Timetable) (stop : Text) → IsBookOf tables book → Among table tables → IsOfRegion table stop → serves book table.region stop ≡ true
+pub region_served : (tables : List Timetable) (book : Book) (table : Timetable) (stop : Text) → IsBookOfTables tables book → Among table tables → IsOfRegion table stop → serves book table.region stop ≡ true
 region_served tables book table stop book_of h (inl own) = serves_home book table.region stop own
 region_served tables book table stop book_of h (inr (point, listed, at)) =
     let spot : SpotOf book table.region point.stop = spot_listed tables book table point book_of h listed in
@@ -97,12 +156,27 @@ abbrev pub LinkOf : Book → Text → Text → Text → ℕ → Type 0
 LinkOf book stop region other change =
     Member book.links (λ (link : Link). (link.stop ≡ stop) × (link.region ≡ region) × (link.other ≡ other) × (link.change ≡ change))
 
-pub link_listed : (tables : List Timetable) (book : Book) (table : Timetable) (stop other : Text) (change : ℕ) → IsBookOf tables book → Among table tables → Declares table stop other change → LinkOf book stop table.region other change
+pub link_listed : (tables : List Timetable) (book : Book) (table : Timetable) (stop other : Text) (change : ℕ) → IsBookOfTables tables book → Among table tables → Declares table stop other change → LinkOf book stop table.region other change
 unfolding link_of
 link_listed tables book table stop other change book_of h declares =
-    record { item = link_of stop table.region other change; among = (book_of.links (link_of stop table.region other change)).1 (table, h, refl, declares); holds = (refl, refl, refl, refl) }
+    record {
+      item = link_of stop table.region other change;
+      among = (book_of.links (link_of stop table.region other change)).1 (record {
+        list = points_of table;
+        of_lists = among_map points_of table tables h;
+        code = refl;
+        point = declares.point;
+        listed = declares.of_table;
+        at = declares.at;
+        neighbour = declares.neighbour;
+        declared = declares.listed;
+        other = declares.code;
+        time = declares.time;
+      });
+      holds = (refl, refl, refl, refl);
+    }
 
-pub change_listed : (tables : List Timetable) (book : Book) (left right : Timetable) (stop : Text) (change : ℕ) → IsBookOf tables book → Among left tables → Among right tables → Declares right stop left.region change → HasChange book stop left.region right.region change
+pub change_listed : (tables : List Timetable) (book : Book) (left right : Timetable) (stop : Text) (change : ℕ) → IsBookOfTables tables book → Among left tables → Among right tables → Declares right stop left.region change → HasChange book stop left.region right.region change
 change_listed tables book left right stop change book_of of_left of_right declares =
     let link : LinkOf book stop right.region left.region change = link_listed tables book right stop left.region change book_of of_right declares in
     record {
@@ -115,7 +189,7 @@ change_listed tables book left right stop change book_of of_left of_right declar
       time = link.holds.3;
     }
 
-pub leads_out_listed : (tables : List Timetable) (book : Book) (left right : Timetable) (stop : Text) (change : ℕ) → IsBookOf tables book → Among left tables → Among right tables → Declares left stop right.region change → leads_out book left.region stop ≡ true
+pub leads_out_listed : (tables : List Timetable) (book : Book) (left right : Timetable) (stop : Text) (change : ℕ) → IsBookOfTables tables book → Among left tables → Among right tables → Declares left stop right.region change → leads_out book left.region stop ≡ true
 leads_out_listed tables book left right stop change book_of of_left of_right declares =
     let link : LinkOf book stop left.region right.region change = link_listed tables book left stop right.region change book_of of_left declares in
     let known : Among link.item.other book.codes = subst (λ (code : Text). Among code book.codes) (sym link.holds.2) (code_listed tables book right book_of of_right) in
@@ -126,11 +200,11 @@ pub one_table : (tables : List Timetable) (x y : Timetable) → AreTables tables
 one_table tables x y well of_x of_y e = well.one_each x y of_x of_y e
 
 -- what a link of the book declares, by the timetable of its region
-pub link_declares : (tables : List Timetable) (book : Book) (link : Link) (table : Timetable) → AreTables tables → IsBookOf tables book → Among link book.links → Among table tables → table.region ≡ link.region → Declares table link.stop link.other link.change
+pub link_declares : (tables : List Timetable) (book : Book) (link : Link) (table : Timetable) → AreTables tables → IsBookOfTables tables book → Among link book.links → Among table tables → table.region ≡ link.region → Declares table link.stop link.other link.change
 link_declares tables book link table well book_of listed h region =
-    let has : HasLink tables link = (book_of.links link).0 listed in
-    let same : has.0 ≡ table = one_table tables has.0 table well has.1 h (has.2 ∙ sym region) in
-    subst (λ (it : Timetable). Declares it link.stop link.other link.change) same has.3
+    let has : LinkTable tables link = link_table tables link ((book_of.links link).0 listed) in
+    let same : has.table ≡ table = one_table tables has.table table well has.of_tables h (has.region ∙ sym region) in
+    subst (λ (it : Timetable). Declares it link.stop link.other link.change) same has.declares
 
 -- a change of the book is declared in both directions
 pub record IsDeclared (left right : Timetable) (stop : Text) (change : ℕ) : Type 0 where
@@ -140,7 +214,7 @@ pub record IsDeclared (left right : Timetable) (stop : Text) (change : ℕ) : Ty
 
 pub change_declared :
     (tables : List Timetable) (book : Book) (left right : Timetable) (stop : Text) (change : ℕ)
-    → AreTables tables → IsBookOf tables book → IsAgreed book → Among left tables → Among right tables
+    → AreTables tables → IsBookOfTables tables book → IsAgreed book → Among left tables → Among right tables
     → HasChange book stop left.region right.region change → IsDeclared left right stop change
 change_declared tables book left right stop change well book_of agreed of_left of_right has =
     let known : Among has.link.other book.codes = subst (λ (code : Text). Among code book.codes) (sym has.other) has.known in

@@ -18,7 +18,7 @@ use Rattle.ojp_timetable.specs.Journeys.{Arrives}
 use Rattle.ojp_timetable.specs.Rows.{AreTables, ArrivesByRows}
 use Rattle.ojp_timetable.specs.Answers.{AreEvents}
 use Rattle.std.specs.List.{filter_map}
-use Rattle.ojp_exchange.specs.Book.{Book, Spot, HasSpot, has_region, is_declared}
+use Rattle.ojp_exchange.specs.Book.{Book, Spot, has_region, is_declared}
 use Rattle.ojp_labels.specs.declared.queries.Query.{Query}
 use Rattle.ojp_labels.specs.declared.queries.Query.TheVariants.{Check, Reach}
 use Rattle.ojp_labels.specs.declared.queries.Entry.{Entry}
@@ -28,7 +28,7 @@ use Rattle.ojp_labels.specs.Wanted.{check_by, Pair, start_of, reach_at, pairs, P
 use Rattle.ojp_labels.specs.Ends.{lost_check, failed_checks, failed_at, failed_pairs, lesser_text, least_text, fault_by, fault, CheckFailed, PairFailed}
 use Rattle.ojp_labels.specs.Headline.{AreTablesOf, ReplyGiven, EntryGiven, IsPlaceBy, IsPlace, HasNoJourney, IsEarliest, NoTripIsRight, EndMeans, EndIsRight}
 use Rattle.ojp_labels.proofs.ListFacts.{Member, each_at, among_append, among_append_left, among_append_right, among_filter_map, among_filter_map_back}
-use Rattle.ojp_labels.proofs.BookFacts.{is_region, is_declared_is, declared_is, one_table, code_listed, SpotOf, spot_listed}
+use Rattle.ojp_labels.proofs.BookFacts.{SpotTable, spot_table, is_region, is_declared_is, declared_is, one_table, code_listed, SpotOf, spot_listed}
 use Rattle.ojp_timetable.proofs.RowFacts.{to_rows, from_rows}
 use Rattle.ojp_labels.proofs.Parts.{unwind, onward_end}
 use Rattle.ojp_labels.proofs.StartFacts.{HeardFrom, heard_from_entry, BestBelow, BestIs, best_is}
@@ -217,8 +217,8 @@ known_is tables book ask told stop ended e = go (place_by book told stop Known e
     go : PlaceBy book told stop Known → IsPlace tables stop
     go (ByPoint own is) =
         let m : Member book.spots (λ (spot : Spot). spot.stop ≡ stop) = declared_is book stop (known_state (is_declared book stop) is) in
-        let spot : HasSpot tables m.item = (ended.whole.book_of.spots m.item).0 m.among in
-        is_place tables stop None own (spot.0, spot.1, (spot.3.0, spot.3.1, spot.3.2 ∙ m.holds))
+        let spot : SpotTable tables m.item = spot_table tables m.item ((ended.whole.book_of.spots m.item).0 m.among) in
+        is_place tables stop None own (spot.table, spot.of_tables, (spot.point, spot.listed, spot.at ∙ m.holds))
     go (NoRegion code own lacks is) = absurd (known_unknown (sym is))
     go (ByCheck code own known is) =
         let it : Tells told (Check code stop) Known = state_told told (Check code stop) Known known_unheard is in

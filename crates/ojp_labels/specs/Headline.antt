@@ -10,7 +10,7 @@ use Rattle.ojp_values.specs.declared.replies.Delivery.{Delivery}
 use Rattle.ojp_timetable.specs.Tables.{Timetable, has}
 use Rattle.ojp_timetable.specs.Rows.{AreTables, ArrivesByRows}
 use Rattle.ojp_timetable.specs.Answers.{RegionAnswers}
-use Rattle.ojp_exchange.specs.Book.{Book, IsBookOf, IsAgreed}
+use Rattle.ojp_exchange.specs.Book.{Book, IsBookOfTables, IsAgreed}
 use Rattle.ojp_labels.specs.declared.queries.Query.{Query}
 use Rattle.ojp_labels.specs.declared.queries.Entry.{Entry}
 use Rattle.ojp_labels.specs.Records.{region_of}
@@ -21,7 +21,7 @@ use Rattle.ojp_labels.specs.Ends.{fault, CheckFailed, FailureStands}
 -- the timetables are well, the book is theirs, and its declarations agree
 pub record AreTablesOf (tables : List Timetable) (book : Book) : Type 0 where
   pub tables_well : AreTables tables
-  pub book_of : IsBookOf tables book
+  pub book_of : IsBookOfTables tables book
   pub agreed : IsAgreed book
 
 -- a reply is what the query's region answers by its timetable
