@@ -197,7 +197,7 @@ date_is_writable date h =
       day = omega (arith, h.civil.2.1, (days_in_month_bounds (pos date.year) date.month).0);
     }
 
-two_injective : (m n : ℕ) → two m ≡ two n → m ≡ n
+pub two_injective : (m n : ℕ) → two m ≡ two n → m ≡ n
 two_injective m n e =
     let tens : 48 + m / 10 ≡ 48 + n / 10 = ap (λ t. get_or t 0 0) e in
     let ones : 48 + m % 10 ≡ 48 + n % 10 = ap (λ t. get_or t 1 0) e in

@@ -35,14 +35,14 @@ escaped_some false true gt b = lit≤ tt
 escaped_some false false true b = lit≤ tt
 escaped_some false false false b = lit≤ tt
 
-escaped_byte_some : (b : ℕ) → 1 ≤ length (escaped_byte b)
+pub escaped_byte_some : (b : ℕ) → 1 ≤ length (escaped_byte b)
 escaped_byte_some b = escaped_some (b == 38) (b == 60) (b == 62) b
 
-and_true_left : (x y : Bool) → (x && y) ≡ true → x ≡ true
+pub and_true_left : (x y : Bool) → (x && y) ≡ true → x ≡ true
 and_true_left true y e = refl
 and_true_left false y e = absurd (cc e)
 
-and_true_right : (x y : Bool) → (x && y) ≡ true → y ≡ true
+pub and_true_right : (x y : Bool) → (x && y) ≡ true → y ≡ true
 and_true_right true y e = e
 and_true_right false y e = absurd (cc e)
 
@@ -109,9 +109,11 @@ pub first_byte_shorter : (text : List ℕ) (b : ℕ) (rest : List ℕ) → first
 first_byte_shorter text b rest e =
     omega (arith, ap length (sym (escaped-first_byte text b rest e)), length-append (escaped_byte b) rest, escaped_byte_some b)
 
--- a name is at most 100 bytes
-name_short : (v : List ℕ) → IsTrue (is_name v) → length v ≤ 100
-name_short v e = leb-true (length v) 100 (and_true_right (nat_le 1 (length v)) _ (and_true_left _ _ (and_true_left _ _ (and_true_left _ _ e))))
+-- a name is 1 to 100 bytes
+pub name_bounds : (v : List ℕ) → IsTrue (is_name v) → (1 ≤ length v) × (length v ≤ 100)
+name_bounds v e =
+    let between = and_true_left _ _ (and_true_left _ _ (and_true_left _ _ e)) in
+    (leb-true 1 (length v) (and_true_left _ _ between), leb-true (length v) 100 (and_true_right _ _ between))
 
 -- with 100 bytes read and more to come, the text spells no name
 pub no_room : (a rest text v : List ℕ) → escaped a ++ rest ≡ text → 100 ≤ length a → false ≡ (length rest == 0) → IsTrue (is_name v)
@@ -124,7 +126,7 @@ no_room a rest text v e full more is spelled =
         → (w : List ℕ) → v ≡ a ++ w → rest ≡ escaped w → ⊥
     no_room_by a rest v full more is [] same rest_is = more rest_is
     no_room_by a rest v full more is (y ∷ w) same rest_is =
-        omega (arith, full, name_short v is, ap length same, length-append a (y ∷ w))
+        omega (arith, full, (name_bounds v is).1, ap length same, length-append a (y ∷ w))
 
 -- where no spelling of a byte begins what is left, the text spells no name
 pub no_byte : (a rest text v : List ℕ) → escaped a ++ rest ≡ text → first_byte rest ≡ None → false ≡ (length rest == 0)

@@ -4,3 +4,4 @@ pub mod Unicode
 pub mod Numerals
 pub mod Escapes
 pub mod Calendar
+pub mod FieldTexts

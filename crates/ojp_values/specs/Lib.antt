@@ -1,5 +1,6 @@
 pub mod Dates
 pub mod Escapes
+pub mod FieldTexts
 pub mod Limits
 pub mod Lists
 pub mod Numbers

@@ -7,6 +7,7 @@
 pub mod asks;
 pub mod dates;
 pub mod documents;
+pub mod fields;
 mod fixed;
 pub mod kinds;
 pub mod lists;
