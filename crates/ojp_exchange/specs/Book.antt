@@ -5,7 +5,7 @@ use Rattle.ojp_values.specs.Lists.{Among, IsRising}
 use Rattle.ojp_values.specs.Texts.{Text, same, text_lt, home}
 use Rattle.ojp_values.specs.declared.trips.Neighbour.{Neighbour}
 use Rattle.ojp_values.specs.declared.trips.Point.{Point}
-use Rattle.ojp_exchange.specs.declared.points.RegionPoints.{RegionPoints}
+use Rattle.ojp_exchange.specs.declared.region_points.RegionPoints.{RegionPoints}
 use Rattle.ojp_timetable.specs.Tables.{Timetable}
 
 -- the region declares the exchange point, with its own change time there

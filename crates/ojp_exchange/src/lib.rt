@@ -1,6 +1,6 @@
 //! The book: what the exchange points of a list of regions declare.
 #![tactic(auto)]
 
-pub mod points;
+pub mod region_points;
 
-pub use points::RegionPoints;
+pub use region_points::RegionPoints;

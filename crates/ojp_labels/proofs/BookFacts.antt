@@ -8,7 +8,7 @@ use Rattle.ojp_timetable.specs.Tables.{Timetable}
 use Rattle.ojp_timetable.specs.Runs.{IsOfRegion}
 use Rattle.ojp_timetable.specs.Journeys.{Declares}
 use Rattle.ojp_timetable.specs.Rows.{AreTables}
-use Rattle.ojp_exchange.specs.declared.points.RegionPoints.{RegionPoints}
+use Rattle.ojp_exchange.specs.declared.region_points.RegionPoints.{RegionPoints}
 use Rattle.ojp_exchange.specs.Book.{Spot, Link, Book, HasSpot, HasLink, points_of, IsBookOfTables, HasReturn, IsAgreed, has_region, is_home, serves, is_declared, leads_out, HasChange}
 use Rattle.ojp_labels.proofs.ListFacts.{Member, among_map, among_map_back, among_list_any, among_list_any_back}
 use Rattle.ojp_timetable.proofs.TextFacts.{same_is, is_same}
