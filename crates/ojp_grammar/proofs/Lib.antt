@@ -1,0 +1,15 @@
+pub mod Tests
+pub mod Words
+pub mod Plain
+pub mod Numbers
+pub mod FieldLaws
+pub mod Spelled
+pub mod Behind
+pub mod Progress
+pub mod Refusal
+pub mod Tested
+pub mod Wanted
+pub mod Cuts
+pub mod OneKind
+pub mod Runs
+pub mod Built

@@ -1,0 +1,56 @@
+-- Tests that are true or false.
+use Rattle.std.proofs.Common.{◌≡◌, refl, ℕ, zero, suc, Bool, true, false, ◌⊎◌, inl, inr, ◌≤◌, ◌<◌, arith, subst}
+use Rattle.std.proofs.lemmas.Bool.{eq-eqb, eqb-true}
+use Rattle.std.specs.Prelude.{if◌then◌else◌, ◌||◌, ◌&&◌, ◌==◌, not}
+
+pub either_way : (b : Bool) → (b ≡ true) ⊎ (b ≡ false)
+either_way true = inl refl
+either_way false = inr refl
+
+pub false_of : (b : Bool) → (b ≡ true → ⊥) → b ≡ false
+false_of true h = absurd (h refl)
+false_of false h = refl
+
+pub or_left : (a b : Bool) → a ≡ true → (a || b) ≡ true
+or_left true b h = refl
+or_left false b h = cc
+
+pub or_right : (a b : Bool) → b ≡ true → (a || b) ≡ true
+or_right true b h = refl
+or_right false b h = h
+
+pub or_cases : (a b : Bool) → (a || b) ≡ true → (a ≡ true) ⊎ (b ≡ true)
+or_cases true b h = inl refl
+or_cases false b h = inr h
+
+pub and_both : (a b : Bool) → a ≡ true → b ≡ true → (a && b) ≡ true
+and_both true b h i = i
+and_both false b h i = cc
+
+pub and_left : (a b : Bool) → (a && b) ≡ true → a ≡ true
+and_left true b h = refl
+and_left false b h = cc
+
+pub and_right : (a b : Bool) → (a && b) ≡ true → b ≡ true
+and_right true b h = h
+and_right false b h = cc
+
+-- a choice by a test has what both branches have
+pub if_both : {A : Type 0} (P : A → Type 0) (b : Bool) (x y : A) → P x → P y → P (if b then x else y)
+if_both P true x y p q = p
+if_both P false x y p q = q
+
+pub not_zero : (n : ℕ) → 0 < n → not (n == 0) ≡ true
+not_zero n h =
+    let other : (n == 0) ≡ false = false_of (n == 0) (λ g. let e : n ≡ 0 = eqb-true n 0 g in omega arith) in
+    rw other refl
+
+pub zero_is : (n : ℕ) → n ≡ 0 → (n == 0) ≡ true
+zero_is n h = eq-eqb n 0 h
+
+pub is_zero : (n : ℕ) → (n == 0) ≡ true → n ≡ 0
+is_zero n h = eqb-true n 0 h
+
+pub is_above : (n : ℕ) → not (n == 0) ≡ true → 0 < n
+is_above zero h = cc
+is_above (suc n) h = omega arith

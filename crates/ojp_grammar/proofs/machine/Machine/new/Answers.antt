@@ -1,0 +1,16 @@
+use Rattle.std.proofs.Common.{◌≡◌, [], ◌∷◌, sym, ◌∙◌, ap, subst, List}
+use Rattle.ojp_tables.specs.declared.names.TheConstants.{HEAD, END}
+use Rattle.ojp_grammar.specs.Syntax.{Syntax, text}
+use Rattle.ojp_grammar.specs.Steps.{syntax_of, stack_of}
+use Rattle.ojp_grammar.specs.Reached.{start_of}
+use Rattle.ojp_grammar.specs.Machine.{IsReading}
+use Rattle.ojp_grammar.proofs.Runs.{reading_start, three_open}
+use Rattle.ojp_grammar.proofs.machine.Machine.new.Goals as goal
+
+pub returns-clause-at : goal.returns-clause-at
+returns-clause-at c bytes =
+    let open_shapes : stack_of c.push-3.new.self.items ≡ start_of c.args.want =
+    three_open c.in_ok-stack.stack.items c.push.new.self.items c.push-2.new.self.items c.push-3.new.self.items _ c.content.result _
+    c.in_ok-stack.ensures.items c.in_ok-push.ensures.items c.in_ok-push-2.ensures.items c.in_ok-push-3.ensures.items
+    ∙ ap (λ s. text HEAD ∷ s ∷ text END ∷ []) c.content.ensures in
+    subst (IsReading c.args.want bytes 0) (sym open_shapes) (reading_start c.args.want bytes)

@@ -1,0 +1,12 @@
+use Rattle.std.proofs.Common.{rules, arith}
+use Rattle.ojp_grammar.specs.Steps.{syntax_of}
+use Rattle.ojp_grammar.proofs.Cuts.{text_comes, no_text}
+use Rattle.ojp_grammar.proofs.machine.find_text.Goals as goal
+
+pub returns-in-Some : goal.returns-in-Some
+returns-in-Some c =
+    text_comes (syntax_of c.args.shape.now) c.args.bytes.now c.in-Some.n c.requires.plain c.in-Some.ensures.0 c.in-Some.ensures.1
+
+pub returns-else-is_cut : goal.returns-else-is_cut
+returns-else-is_cut c =
+    no_text (syntax_of c.args.shape.now) c.args.bytes.now c.requires.text c.in-None.ensures c.if-is_cut.ensures

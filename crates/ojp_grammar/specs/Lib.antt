@@ -1,0 +1,12 @@
+pub mod Fields
+pub mod Items
+pub mod Syntax
+pub mod Grammar
+pub mod Documents
+pub mod Places
+pub mod Building
+pub mod Steps
+pub mod Machine
+pub mod Parts
+pub mod Running
+pub mod Reached
