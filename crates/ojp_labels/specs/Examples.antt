@@ -3,7 +3,7 @@
 use Rattle.std.specs.Prelude.{◌≡◌, ℕ, ◌+◌, ◌-◌, ◌*◌, List, [], ◌∷◌, ◌++◌, Some, None, codes}
 use Rattle.ojp_values.specs.Texts.{Text}
 use Rattle.ojp_values.specs.declared.asks.TripAsk.{TripAsk}
-use Rattle.ojp_values.specs.declared.replies.Fault.TheVariants.{RegionFailed}
+use Rattle.ojp_values.specs.declared.replies.Fault.TheVariants.{StopUnknown, NoTrip, RegionFailed}
 use Rattle.ojp_values.specs.declared.replies.TripResult.{TripResult}
 use Rattle.ojp_values.specs.declared.replies.TripResult.TheVariants as results
 use Rattle.ojp_values.specs.declared.replies.MultiReply.TheVariants as multi_replies
@@ -245,3 +245,95 @@ pub record FailureIsSuperseded : Type 0 where
   pub nothing_more_either : wanted even_change to_cc failed_again ≡ []
   pub no_arrival : best even_change to_cc failed_again ≡ None
   pub stands : fault even_change to_cc failed_again ≡ Some (RegionFailed code_cc)
+
+-- The time for a change is exact. BB declares 600 seconds from AA at x:P, so a traveller who is there at 08:30 may
+-- leave with BB from 08:40:00; with 601 from 08:40:01.
+
+abbrev pub one_point : ℕ → Book
+one_point from_aa =
+    record {
+      codes = code_aa ∷ code_bb ∷ [];
+      spots = spot point_p code_aa ∷ spot point_p code_bb ∷ [];
+      links = link point_p code_aa code_bb 300 ∷ link point_p code_bb code_aa from_aa ∷ [];
+    }
+
+abbrev pub to_bb : TripAsk
+to_bb = record { origin = start_stop; start = at 7 55; target = codes "BB:z" }
+
+abbrev pub at_point : List Entry
+at_point =
+    known code_bb (codes "BB:z") ∷ known code_aa start_stop
+    ∷ heard code_aa start_stop (at 7 55) (by_ride code_aa (codes "J1") start_stop (at 8 0) point_p (at 8 30) ∷ []) ∷ []
+
+pub record ChangeIsExact : Type 0 where
+  pub met : wanted (one_point 600) to_bb at_point ≡ Reach code_bb point_p (at 8 40) ∷ []
+  pub one_more : wanted (one_point 601) to_bb at_point ≡ Reach code_bb point_p (at 8 40 + 1) ∷ []
+
+-- Unknown places. AA and BB share no exchange point, and the book has no region ZZ.
+
+abbrev pub apart : Book
+apart = record { codes = code_aa ∷ code_bb ∷ []; spots = []; links = [] }
+
+abbrev pub ask_to : Text → Text → TripAsk
+ask_to origin target = record { origin = origin; start = at 8 0; target = target }
+
+-- the region does not have the stop
+abbrev pub unknown : Text → Text → Entry
+unknown region stop = record { query = Check region stop; reply = Some (deliveries.Events (events_replies.Fault (StopUnknown stop))) }
+
+-- the check failed
+abbrev pub unchecked : Text → Text → Entry
+unchecked region stop = record { query = Check region stop; reply = None }
+
+abbrev pub nowhere : Text
+nowhere = codes "BB:nope"
+
+abbrev pub of_no_region : Text
+of_no_region = codes "ZZ:z"
+
+-- a stop of no region is asked of none; an unknown origin ends the search at once; an unknown target comes before a failed check
+pub record PlacesAreChecked : Type 0 where
+  pub both : wanted apart (ask_to start_stop nowhere) [] ≡ Check code_aa start_stop ∷ Check code_bb nowhere ∷ []
+  pub other : wanted apart (ask_to start_stop nowhere) (unknown code_bb nowhere ∷ []) ≡ Check code_aa start_stop ∷ []
+  pub ends : wanted apart (ask_to start_stop nowhere) (unknown code_bb nowhere ∷ known code_aa start_stop ∷ []) ≡ []
+  pub target : fault apart (ask_to start_stop nowhere) (unknown code_bb nowhere ∷ known code_aa start_stop ∷ []) ≡ Some (StopUnknown nowhere)
+  pub unknown_first : fault apart (ask_to start_stop nowhere) (unknown code_bb nowhere ∷ unchecked code_aa start_stop ∷ []) ≡ Some (StopUnknown nowhere)
+  pub origin_only : wanted apart (ask_to start_stop of_no_region) [] ≡ Check code_aa start_stop ∷ []
+  pub no_region : fault apart (ask_to start_stop of_no_region) (known code_aa start_stop ∷ []) ≡ Some (StopUnknown of_no_region)
+  pub nothing : wanted apart (ask_to (codes "ZZ:y") of_no_region) [] ≡ []
+  pub origin : fault apart (ask_to (codes "ZZ:y") of_no_region) [] ≡ Some (StopUnknown (codes "ZZ:y"))
+  pub lost_check : fault apart (ask_to start_stop (codes "BB:b")) (known code_bb (codes "BB:b") ∷ unchecked code_aa start_stop ∷ []) ≡ Some (RegionFailed code_aa)
+  pub no_trip : fault apart (ask_to start_stop (codes "BB:b")) (known code_bb (codes "BB:b") ∷ known code_aa start_stop ∷ []) ≡ Some (NoTrip (codes "BB:b"))
+
+-- What can't improve is wanted no more. Once BB:z is reached at 09:40, no start of CC at 09:55 or 10:00 matters.
+
+abbrev pub point_r : Text
+point_r = codes "x:R"
+
+abbrev pub three_points : Book
+three_points =
+    record {
+      codes = code_aa ∷ code_bb ∷ code_cc ∷ [];
+      spots = spot point_p code_aa ∷ spot point_p code_bb ∷ spot point_q code_aa ∷ spot point_q code_cc ∷ spot point_r code_aa ∷ spot point_r code_cc ∷ [];
+      links = link point_p code_aa code_bb 300 ∷ link point_p code_bb code_aa 300 ∷ link point_q code_aa code_cc 300 ∷ link point_q code_cc code_aa 300
+          ∷ link point_r code_aa code_cc 300 ∷ link point_r code_cc code_aa 300 ∷ [];
+    }
+
+abbrev pub later_to_bb : TripAsk
+later_to_bb = record { origin = start_stop; start = at 8 55; target = codes "BB:z" }
+
+abbrev pub three_heard : List Entry
+three_heard =
+    known code_aa start_stop ∷ known code_bb (codes "BB:z")
+    ∷ heard code_aa start_stop (at 8 55)
+    (by_ride code_aa (codes "J1") start_stop (at 9 0) point_p (at 9 10) ∷ by_ride code_aa (codes "J2") start_stop (at 9 0) point_q (at 9 50)
+    ∷ by_ride code_aa (codes "J3") start_stop (at 9 0) point_r (at 9 55) ∷ []) ∷ []
+
+abbrev pub reached : List Entry
+reached = three_heard ++ heard code_bb point_p (at 9 15) (by_ride code_bb (codes "K1") point_p (at 9 20) (codes "BB:z") (at 9 40) ∷ []) ∷ []
+
+pub record LaterStartsAreDropped : Type 0 where
+  pub three : wanted three_points later_to_bb three_heard ≡ Reach code_bb point_p (at 9 15) ∷ Reach code_cc point_q (at 9 55) ∷ Reach code_cc point_r (at 10 0) ∷ []
+  pub none : wanted three_points later_to_bb reached ≡ []
+  pub best_arrival : best three_points later_to_bb reached ≡ Some (at 9 40)
+  pub trip : fault three_points later_to_bb reached ≡ None
