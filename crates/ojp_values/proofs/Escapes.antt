@@ -1,13 +1,13 @@
 -- The spelling of a name is read back from its front.
-use Rattle.std.proofs.Common.{◌≡◌, ℕ, ◌<◌, ◌≤◌, ◌==◌, ◌||◌, Bool, true, false, cond, List, [], ◌∷◌, ◌++◌, length, Option, Some, None, codes, nat_eq, nat_le, take, drop, IsTrue, true≢false, IsSome, IfSome, ◌↔◌, ◌&&◌, lit≤, length-append, take-append-drop, refl, sym, ap, ◌∙◌, arith, subst}
+use Rattle.std.proofs.Common.{◌≡◌, ℕ, suc, ◌+◌, ◌<◌, ◌≤◌, ◌==◌, ◌||◌, Bool, true, false, not, cond, List, [], ◌∷◌, ◌++◌, length, Option, Some, None, codes, nat_eq, nat_le, take, drop, IsTrue, true≢false, IsSome, IfSome, ◌↔◌, ◌&&◌, lit≤, length-append, take-append-drop, refl, sym, ap, ◌∙◌, arith, subst}
 use Rattle.std.proofs.lemmas.Bool.{eqb-true, leb-true}
 use Rattle.std.proofs.lemmas.Slice.Eq.{bytes_eq-Decides}
 use Rattle.std.proofs.lemmas.Grind.{flat_map-append}
 use Rattle.std.proofs.lemmas.List.{append_assoc, append-nil}
-use Rattle.std.specs.List.{starts_with}
+use Rattle.std.specs.List.{starts_with, position_or_len}
 use Rattle.ojp_values.specs.Texts.{Text, escaped_byte, escaped, is_name}
 use Rattle.ojp_values.specs.Numbers.{Reads}
-use Rattle.ojp_values.specs.Escapes.{first_byte, first_escape}
+use Rattle.ojp_values.specs.Escapes.{first_byte, first_escape, is_escaped_byte}
 
 -- by the tests for the three bytes that are escaped
 spelled : (amp lt gt : Bool) (b : ℕ) (rest : List ℕ) → amp ≡ (b == 38) → lt ≡ (b == 60) → gt ≡ (b == 62)
@@ -160,3 +160,24 @@ read_all a [] text found e more exact value = read_by a text found (sym (append-
         λ v is spelling. cc (exact.1 (let P : List ℕ → Type 0 = λ x. IsTrue (is_name x) in subst P (escaped_injective v a (spelling ∙ sym e)) is))
 read_all a (x ∷ rest) text found e more exact value =
     absurd (omega (arith, eqb-true (length (x ∷ rest)) 0 (sym more)))
+
+-- ---- spelling from the front
+
+plain_by : (amp lt gt : Bool) (b : ℕ) (xs : List ℕ) (k : ℕ) → amp ≡ (b == 38) → lt ≡ (b == 60) → gt ≡ (b == 62)
+    → escaped xs ≡ take k xs ++ escaped (drop k xs)
+    → escaped (b ∷ xs) ≡ take (cond (not (amp || lt || gt)) (1 + k) 0) (b ∷ xs) ++ escaped (drop (cond (not (amp || lt || gt)) (1 + k) 0) (b ∷ xs))
+plain_by true lt gt b xs k a l g e = refl
+plain_by false true gt b xs k a l g e = refl
+plain_by false false true b xs k a l g e = refl
+plain_by false false false b xs k a l g e =
+    let next : 1 + k ≡ suc k = omega arith in rw (next, sym a, sym l, sym g) (ap (λ ys. b ∷ ys) e)
+
+-- the bytes up to the first that is escaped are spelled as themselves
+pub escaped_plain : (text : List ℕ) → escaped text ≡ take (position_or_len is_escaped_byte text) text ++ escaped (drop (position_or_len is_escaped_byte text) text)
+escaped_plain [] = refl
+escaped_plain (b ∷ xs) =
+    plain_by (b == 38) (b == 60) (b == 62) b xs (position_or_len is_escaped_byte xs) refl refl refl (escaped_plain xs)
+
+-- where the first byte is spelled as itself, less is left
+pub plain_rest : (b : ℕ) (xs : List ℕ) → is_escaped_byte b ≡ false → 1 ≤ position_or_len is_escaped_byte (b ∷ xs)
+plain_rest b xs e = rw e (omega arith)

@@ -102,7 +102,7 @@ spelled_short false true gt b = lit≤ tt
 spelled_short false false true b = lit≤ tt
 spelled_short false false false b = lit≤ tt
 
-escaped_short : (name : List ℕ) → length (escaped name) ≤ 5 * length name
+pub escaped_short : (name : List ℕ) → length (escaped name) ≤ 5 * length name
 escaped_short [] = lit≤ tt
 escaped_short (b ∷ name) =
     omega (arith, length-append (escaped_byte b) (escaped name), spelled_short (b == 38) (b == 60) (b == 62) b, escaped_short name)
