@@ -92,6 +92,7 @@ IsAgreed book = (link : Link) → Among link book.links → Among link.other boo
 unfoldable pub has_region : Book → Text → Bool
 has_region book code = list_any (same code) book.codes
 
+-- the region is that of the own stop
 abbrev pub is_home : Text → Option Text → Bool
 is_home region None = false
 is_home region (Some code) = same region code

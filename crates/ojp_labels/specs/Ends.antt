@@ -13,6 +13,7 @@ use Rattle.ojp_labels.specs.Records.{is_failed, Failed}
 use Rattle.ojp_labels.specs.Starts.{known_starts, best}
 use Rattle.ojp_labels.specs.Wanted.{Pair, may_matter, start_of, reach_at, pairs, PlaceState, Unknown, CheckLost, state}
 
+-- the region with the code, where its check is lost
 abbrev pub lost_check : PlaceState → Option Text → List Text
 lost_check CheckLost (Some code) = code ∷ []
 lost_check state code = []
@@ -31,6 +32,7 @@ failed_at told pair (Some start) = if is_failed told (reach_at pair start) then 
 unfoldable pub failed_pairs : Book → TripAsk → List Entry → List Text
 failed_pairs book ask told = filter_map (λ pair. failed_at told pair (start_of book ask told pair)) (pairs book ask)
 
+-- the lesser of the texts, where there is another one
 abbrev pub lesser_text : Text → Option Text → Text
 lesser_text x None = x
 lesser_text x (Some y) = if text_lt y x then y else x

@@ -16,30 +16,39 @@ use Rattle.ojp_labels.specs.Starts.{best}
 use Rattle.ojp_labels.specs.Wanted.{wanted, IsRecord}
 use Rattle.ojp_labels.specs.Ends.{fault}
 
+-- the moment of the day, by its hours and minutes
 abbrev pub at : ℕ → ℕ → ℕ
 at hours minutes = 1714953600 + (hours * 3600 + minutes * 60)
 
+-- the region AA
 abbrev pub code_aa : Text
 code_aa = codes "AA"
 
+-- the region BB
 abbrev pub code_bb : Text
 code_bb = codes "BB"
 
+-- the region CC
 abbrev pub code_cc : Text
 code_cc = codes "CC"
 
+-- the exchange point x:P
 abbrev pub point_p : Text
 point_p = codes "x:P"
 
+-- the exchange point x:Q
 abbrev pub point_q : Text
 point_q = codes "x:Q"
 
+-- the stop AA:a
 abbrev pub start_stop : Text
 start_stop = codes "AA:a"
 
+-- the region declares the stop, with 60 seconds for a change of its own
 abbrev pub spot : Text → Text → Spot
 spot stop region = record { stop = stop; region = region; change = 60 }
 
+-- the region declares the other one at the stop
 abbrev pub link : Text → Text → Text → ℕ → Link
 link stop region other change = record { stop = stop; region = region; other = other; change = change }
 
@@ -90,23 +99,29 @@ three_regions from_aa from_bb =
 -- The later arrival wins. By AA a traveller is at x:P at 10:00, and by way of x:Q and BB at 10:05; but CC needs 900
 -- seconds from AA and 60 from BB, so only the later one reaches the ride of CC at 10:06.
 
+-- from AA:a at 08:55 to CC:z
 abbrev pub to_cc : TripAsk
 to_cc = record { origin = start_stop; start = at 8 55; target = codes "CC:z" }
 
+-- 900 seconds from AA and 60 from BB
 abbrev pub slow_change : Book
 slow_change = three_regions 900 60
 
+-- both places are known
 abbrev pub places_known : List Entry
 places_known = known code_aa start_stop ∷ known code_cc (codes "CC:z") ∷ []
 
+-- AA reaches x:P at 10:00 and x:Q at 09:20
 abbrev pub both_points : List Entry
 both_points =
     places_known
     ++ heard code_aa start_stop (at 8 55) (by_ride code_aa (codes "J1") start_stop (at 9 0) point_p (at 10 0) ∷ by_ride code_aa (codes "J2") start_stop (at 9 0) point_q (at 9 20) ∷ []) ∷ []
 
+-- BB reaches x:P from x:Q at 10:05
 abbrev pub slow_to_p : Entry
 slow_to_p = heard code_bb point_q (at 9 25) (by_ride code_bb (codes "K1") point_q (at 9 30) point_p (at 10 5) ∷ [])
 
+-- the arrival by BB at x:P is heard before CC is asked there
 abbrev pub later_first : List Entry
 later_first =
     both_points
@@ -116,6 +131,7 @@ later_first =
     ∷ heard code_bb point_p (at 10 5) (results.NoTrip point_q ∷ [])
     ∷ []
 
+-- CC is asked from the arrival by AA first, and again after that by BB
 abbrev pub earlier_first : List Entry
 earlier_first =
     both_points
@@ -141,6 +157,7 @@ pub record LaterArrivalWins : Type 0 where
 
 -- Out and back. From AA:a to AA:z a ride of AA itself arrives at 12:00; by x:P, a ride of BB and x:Q one is there at 10:10.
 
+-- AA and BB share x:P and x:Q
 abbrev pub two_regions : Book
 two_regions =
     record {
@@ -149,20 +166,25 @@ two_regions =
       links = link point_p code_aa code_bb 300 ∷ link point_p code_bb code_aa 300 ∷ link point_q code_aa code_bb 300 ∷ link point_q code_bb code_aa 300 ∷ [];
     }
 
+-- from AA:a at 08:55 to AA:z
 abbrev pub to_aa : TripAsk
 to_aa = record { origin = start_stop; start = at 8 55; target = codes "AA:z" }
 
+-- both places are known
 abbrev pub own_places : List Entry
 own_places = known code_aa start_stop ∷ known code_aa (codes "AA:z") ∷ []
 
+-- AA reaches x:P at 09:10 and AA:z at 12:00
 abbrev pub own_trip : List Entry
 own_trip =
     own_places
     ++ heard code_aa start_stop (at 8 55) (by_ride code_aa (codes "J1") start_stop (at 9 0) point_p (at 9 10) ∷ results.NoTrip point_q ∷ by_ride code_aa (codes "J2") start_stop (at 9 0) (codes "AA:z") (at 12 0) ∷ []) ∷ []
 
+-- BB reaches x:Q at 09:40
 abbrev pub out : List Entry
 out = own_trip ++ heard code_bb point_p (at 9 15) (by_ride code_bb (codes "K1") point_p (at 9 20) point_q (at 9 40) ∷ []) ∷ []
 
+-- AA reaches AA:z from there at 10:10
 abbrev pub back : List Entry
 back = out ++ heard code_aa point_q (at 9 45) (results.NoTrip point_p ∷ by_ride code_aa (codes "J3") point_q (at 9 50) (codes "AA:z") (at 10 10) ∷ []) ∷ []
 
@@ -180,6 +202,7 @@ pub record OutAndBack : Type 0 where
 
 -- From an exchange point to another, which three regions share: nothing is checked, and each region is asked.
 
+-- AA, BB and CC share x:P and x:Q
 abbrev pub shared_points : Book
 shared_points =
     record {
@@ -189,12 +212,15 @@ shared_points =
           ∷ link point_q code_aa code_bb 300 ∷ link point_q code_aa code_cc 300 ∷ link point_q code_bb code_aa 300 ∷ link point_q code_bb code_cc 300 ∷ link point_q code_cc code_aa 300 ∷ link point_q code_cc code_bb 300 ∷ [];
     }
 
+-- from x:P at 08:59 to x:Q
 abbrev pub to_point : TripAsk
 to_point = record { origin = point_p; start = at 8 59; target = point_q }
 
+-- BB is heard first, and reaches x:Q at 09:40
 abbrev pub first_heard : List Entry
 first_heard = heard code_bb point_p (at 8 59) (by_ride code_bb (codes "K1") point_p (at 9 5) point_q (at 9 40) ∷ []) ∷ []
 
+-- AA and CC reach it later
 abbrev pub all_heard : List Entry
 all_heard =
     first_heard
@@ -202,6 +228,7 @@ all_heard =
     ∷ heard code_cc point_p (at 8 59) (by_ride code_cc (codes "M1") point_p (at 9 10) point_q (at 9 45) ∷ [])
     ∷ []
 
+-- the first that is heard is the best, and the others are heard too
 pub record PointToPoint : Type 0 where
   pub regions : wanted shared_points to_point [] ≡ Reach code_aa point_p (at 8 59) ∷ Reach code_bb point_p (at 8 59) ∷ Reach code_cc point_p (at 8 59) ∷ []
   pub others : wanted shared_points to_point first_heard ≡ Reach code_aa point_p (at 8 59) ∷ Reach code_cc point_p (at 8 59) ∷ []
@@ -211,25 +238,31 @@ pub record PointToPoint : Type 0 where
 
 -- A failure that is superseded. CC fails at x:P for the start at 10:05, which an arrival at 09:30 then supersedes.
 
+-- 300 seconds everywhere
 abbrev pub even_change : Book
 even_change = three_regions 300 300
 
+-- AA reaches x:P at 10:00 and x:Q at 09:10
 abbrev pub points_heard : List Entry
 points_heard =
     places_known
     ++ heard code_aa start_stop (at 8 55) (by_ride code_aa (codes "J1") start_stop (at 9 0) point_p (at 10 0) ∷ by_ride code_aa (codes "J2") start_stop (at 9 0) point_q (at 9 10) ∷ []) ∷ []
 
+-- CC fails at x:P from 10:05
 abbrev pub failed_once : List Entry
 failed_once = points_heard ++ heard code_bb point_p (at 10 5) (results.NoTrip point_q ∷ []) ∷ lost code_cc point_p (at 10 5) ∷ []
 
+-- BB reaches x:P at 09:30
 abbrev pub sooner : List Entry
 sooner =
     failed_once
     ++ heard code_bb point_q (at 9 15) (by_ride code_bb (codes "K1") point_q (at 9 20) point_p (at 9 30) ∷ []) ∷ heard code_aa point_p (at 9 35) (results.NoTrip point_q ∷ []) ∷ []
 
+-- CC is asked there again from 09:35, and reaches CC:z at 10:00
 abbrev pub superseded : List Entry
 superseded = sooner ++ heard code_cc point_p (at 9 35) (by_ride code_cc (codes "M1") point_p (at 9 40) (codes "CC:z") (at 10 0) ∷ []) ∷ []
 
+-- CC fails from 09:35 too
 abbrev pub failed_again : List Entry
 failed_again = sooner ++ lost code_cc point_p (at 9 35) ∷ []
 
@@ -249,6 +282,7 @@ pub record FailureIsSuperseded : Type 0 where
 -- The time for a change is exact. BB declares 600 seconds from AA at x:P, so a traveller who is there at 08:30 may
 -- leave with BB from 08:40:00; with 601 from 08:40:01.
 
+-- AA and BB share x:P, where BB needs so much for a change from AA
 abbrev pub one_point : ℕ → Book
 one_point from_aa =
     record {
@@ -257,23 +291,28 @@ one_point from_aa =
       links = link point_p code_aa code_bb 300 ∷ link point_p code_bb code_aa from_aa ∷ [];
     }
 
+-- from AA:a at 07:55 to BB:z
 abbrev pub to_bb : TripAsk
 to_bb = record { origin = start_stop; start = at 7 55; target = codes "BB:z" }
 
+-- AA reaches x:P at 08:30
 abbrev pub at_point : List Entry
 at_point =
     known code_bb (codes "BB:z") ∷ known code_aa start_stop
     ∷ heard code_aa start_stop (at 7 55) (by_ride code_aa (codes "J1") start_stop (at 8 0) point_p (at 8 30) ∷ []) ∷ []
 
+-- the start with BB is the arrival plus what BB declares
 pub record ChangeIsExact : Type 0 where
   pub met : wanted (one_point 600) to_bb at_point ≡ Reach code_bb point_p (at 8 40) ∷ []
   pub one_more : wanted (one_point 601) to_bb at_point ≡ Reach code_bb point_p (at 8 40 + 1) ∷ []
 
 -- Unknown places. AA and BB share no exchange point, and the book has no region ZZ.
 
+-- AA and BB without exchange points
 abbrev pub apart : Book
 apart = record { codes = code_aa ∷ code_bb ∷ []; spots = []; links = [] }
 
+-- from the origin at 08:00 to the target
 abbrev pub ask_to : Text → Text → TripAsk
 ask_to origin target = record { origin = origin; start = at 8 0; target = target }
 
@@ -285,9 +324,11 @@ unknown region stop = record { query = Check region stop; reply = Some (deliveri
 abbrev pub unchecked : Text → Text → Entry
 unchecked region stop = record { query = Check region stop; reply = None }
 
+-- a stop that BB does not have
 abbrev pub nowhere : Text
 nowhere = codes "BB:nope"
 
+-- a stop of a region that the book lacks
 abbrev pub of_no_region : Text
 of_no_region = codes "ZZ:z"
 
@@ -307,9 +348,11 @@ pub record PlacesAreChecked : Type 0 where
 
 -- What can't improve is wanted no more. Once BB:z is reached at 09:40, no start of CC at 09:55 or 10:00 matters.
 
+-- the exchange point x:R
 abbrev pub point_r : Text
 point_r = codes "x:R"
 
+-- AA shares x:P with BB, and x:Q and x:R with CC
 abbrev pub three_points : Book
 three_points =
     record {
@@ -319,9 +362,11 @@ three_points =
           ∷ link point_r code_aa code_cc 300 ∷ link point_r code_cc code_aa 300 ∷ [];
     }
 
+-- from AA:a at 08:55 to BB:z
 abbrev pub later_to_bb : TripAsk
 later_to_bb = record { origin = start_stop; start = at 8 55; target = codes "BB:z" }
 
+-- AA reaches x:P at 09:10, x:Q at 09:50 and x:R at 09:55
 abbrev pub three_heard : List Entry
 three_heard =
     known code_aa start_stop ∷ known code_bb (codes "BB:z")
@@ -329,9 +374,11 @@ three_heard =
     (by_ride code_aa (codes "J1") start_stop (at 9 0) point_p (at 9 10) ∷ by_ride code_aa (codes "J2") start_stop (at 9 0) point_q (at 9 50)
     ∷ by_ride code_aa (codes "J3") start_stop (at 9 0) point_r (at 9 55) ∷ []) ∷ []
 
+-- BB reaches BB:z at 09:40
 abbrev pub reached : List Entry
 reached = three_heard ++ heard code_bb point_p (at 9 15) (by_ride code_bb (codes "K1") point_p (at 9 20) (codes "BB:z") (at 9 40) ∷ []) ∷ []
 
+-- all three are wanted, and then none
 pub record LaterStartsAreDropped : Type 0 where
   pub three : wanted three_points later_to_bb three_heard ≡ Reach code_bb point_p (at 9 15) ∷ Reach code_cc point_q (at 9 55) ∷ Reach code_cc point_r (at 10 0) ∷ []
   pub none : wanted three_points later_to_bb reached ≡ []

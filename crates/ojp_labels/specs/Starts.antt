@@ -49,6 +49,7 @@ arrivals_of region (stop ∷ stops) [] = []
 arrivals_of region (stop ∷ stops) (results.Trip trip ∷ found) = record { stop = stop; region = region; moment = trip.end } ∷ arrivals_of region stops found
 arrivals_of region (stop ∷ stops) (results.NoTrip none ∷ found) = arrivals_of region stops found
 
+-- the arrivals that a reply of the region tells at these targets
 abbrev pub heard_in : Text → List Text → Option Delivery → List Arrival
 heard_in region stops None = []
 heard_in region stops (Some (deliveries.Multi (multi_replies.Results found))) = arrivals_of region stops found
@@ -62,6 +63,7 @@ abbrev pub heard_from : Book → TripAsk → Query → Option Delivery → List 
 heard_from book ask (Check region stop) reply = []
 heard_from book ask (Reach region stop start) reply = heard_in region (targets book ask stop region) reply
 
+-- the arrivals that the entry tells
 abbrev pub heard_at : Book → TripAsk → Entry → List Arrival
 heard_at book ask entry = heard_from book ask entry.query entry.reply
 
@@ -97,9 +99,11 @@ unfoldable pub known_starts : Book → TripAsk → List Entry → Text → Text 
 known_starts book ask told stop region =
     asked_start book ask stop region ++ flat_map (starts_after book stop region) (arrivals book ask told)
 
+-- the moment of the arrival
 abbrev pub moment_of : Arrival → ℕ
 moment_of arrival = arrival.moment
 
+-- the arrival is at the requested target
 abbrev pub is_at_target : TripAsk → Arrival → Bool
 is_at_target ask arrival = same ask.target arrival.stop
 

@@ -32,6 +32,7 @@ pub record Pair : Type 0 where
   pub stop : Text
   pub region : Text
 
+-- the least known start, where there are targets and the start may matter
 abbrev pub mattering : TripAsk → Option ℕ → List Text → Option ℕ → Option ℕ
 mattering ask arrival [] start = None
 mattering ask arrival (target ∷ more) None = None
@@ -60,10 +61,12 @@ abbrev pub placed : Pair → List Pair → List Pair
 placed p [] = p ∷ []
 placed p (q ∷ qs) = if pair_lt p q then p ∷ q ∷ qs else q ∷ placed p qs
 
+-- the pairs with that of an own stop as origin, where its region is one of the book
 abbrev pub with_own : Book → Text → Option Text → List Pair → List Pair
 with_own book origin None pairs = pairs
 with_own book origin (Some code) pairs = if has_region book code then placed (record { stop = origin; region = code }) pairs else pairs
 
+-- the pair of a spot
 abbrev pub pair_of : Spot → Pair
 pair_of spot = record { stop = spot.stop; region = spot.region }
 
@@ -78,15 +81,18 @@ pub data PlaceState : Type 0 where
   Unheard : PlaceState
   CheckLost : PlaceState
 
+-- a check is lost where it has no reply, the place is unknown where the reply says so, and else it is known
 abbrev pub state_of_reply : Option Delivery → PlaceState
 state_of_reply None = CheckLost
 state_of_reply (Some (deliveries.Events (events_replies.Fault (StopUnknown stop)))) = Unknown
 state_of_reply (Some reply) = Known
 
+-- what the first entry of the query tells, if there is one
 abbrev pub state_from : List Entry → Query → PlaceState
 state_from [] query = Unheard
 state_from (entry ∷ told) query = if same_query entry.query query then state_of_reply entry.reply else state_from told query
 
+-- the state of an exchange point, or of the stop of the region with the code
 abbrev pub state_at : Book → List Entry → Text → Option Text → PlaceState
 state_at book told stop None = if is_declared book stop then Known else Unknown
 state_at book told stop (Some code) = if has_region book code then state_from told (Check code stop) else Unknown
@@ -96,6 +102,7 @@ state_at book told stop (Some code) = if has_region book code then state_from to
 unfoldable pub state : Book → List Entry → Text → PlaceState
 state book told stop = state_at book told stop (home stop)
 
+-- the check of the stop by the region with the code
 abbrev pub check_by : Text → Option Text → List Query
 check_by stop None = []
 check_by stop (Some code) = Check code stop ∷ []
@@ -140,6 +147,7 @@ abbrev pub ReplyFits : Book → TripAsk → Query → Option Delivery → Type 0
 ReplyFits book ask query None = Unit {0}
 ReplyFits book ask query (Some reply) = Fits (region_of query) (document book ask query) reply
 
+-- the entry's reply fits, where it has one
 abbrev pub EntryFits : Book → TripAsk → Entry → Type 0
 EntryFits book ask entry = ReplyFits book ask entry.query entry.reply
 
