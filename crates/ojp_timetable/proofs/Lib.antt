@@ -3,3 +3,10 @@ pub mod RideFacts
 pub mod RowFacts
 pub mod LegCounts
 pub mod AnswerFacts
+pub mod FieldFacts
+pub mod MarkFacts
+pub mod MapFacts
+pub mod CallRowFacts
+pub mod PointFacts
+pub mod LineFacts
+pub mod PassFacts

@@ -1,4 +1,12 @@
 pub mod Tables
+pub mod Contents
+pub mod Kept
+pub mod Lines
+pub mod Fields
+pub mod Said
+pub mod Checks
+pub mod TableText
+pub mod Refusals
 pub mod Runs
 pub mod Journeys
 pub mod Rows

@@ -3,12 +3,7 @@ use Rattle.std.specs.Prelude.{ℕ, Bool, List, Option, option_map, unwrap_or, []
 use Rattle.std.specs.List.{list_any}
 use Rattle.ojp_values.specs.Texts.{Text, same}
 use Rattle.ojp_values.specs.declared.trips.Point.{Point}
-
--- a call of a journey at a stop; the offsets are seconds from the beginning of the operating day
-pub record Call : Type 0 where
-  pub stop : Text
-  pub arrives : Option ℕ
-  pub departs : Option ℕ
+pub use Rattle.ojp_timetable.specs.declared.calls.Call.{Call}
 
 -- a journey runs on the days of its service, which is named by its place in the list of services
 pub record Journey : Type 0 where

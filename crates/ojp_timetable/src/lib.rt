@@ -1,4 +1,18 @@
 //! Timetables of one region: what a file holds, its runs and rides, and the journeys and answers that they make.
 #![tactic(auto)]
 
+pub mod above;
+pub mod calls;
+mod checks;
+pub mod draft;
+mod fields;
+pub mod kept;
 pub mod laws;
+pub mod lines;
+mod point_lists;
+mod read_words;
+pub mod reading;
+pub mod refusals;
+mod said;
+pub mod table;
+pub mod words;

@@ -1,0 +1,41 @@
+-- What is kept of the contents: entries by their names, and the calls of all journeys in one row.
+use Rattle.std.specs.Prelude.{ℕ, ◌≤◌, ◌≡◌, List, [], ◌∷◌, Option, Some, None, map, drop, length, slice_range}
+use Rattle.ojp_values.specs.Texts.{Text}
+use Rattle.ojp_timetable.specs.Tables.{Place, Service, Journey, Call}
+use Rattle.ojp_timetable.specs.declared.kept.PlaceFacts.{PlaceFacts}
+use Rattle.ojp_timetable.specs.declared.kept.Head.{Head}
+use Rattle.ojp_timetable.specs.declared.lines.Dates.{Dates}
+
+abbrev pub region_kept : Option Text → Text
+region_kept None = []
+region_kept (Some code) = code
+
+abbrev pub place_kept : Text × PlaceFacts → Place
+place_kept entry = record { stop = entry.0; change = entry.1.change; name = entry.1.name }
+
+-- what is kept of a place beside its stop
+abbrev pub facts_of : Place → PlaceFacts
+facts_of place = record { change = place.change; name = place.name }
+
+abbrev pub service_kept : Text × Dates → Service
+service_kept entry = record { id = entry.0; first = entry.1.first; last = entry.1.last; marks = entry.1.marks }
+
+abbrev pub journey_kept : Text × Head → List Call → Journey
+journey_kept entry calls = record { id = entry.0; line = entry.1.line; service = entry.1.service; calls = calls }
+
+-- the calls of a journey go on to where those of the next begin
+abbrev pub journeys_of : List (Text × Head) → List Call → List Journey
+journeys_of [] calls = []
+journeys_of (entry ∷ []) calls = journey_kept entry (drop entry.1.first_call calls) ∷ []
+journeys_of (entry ∷ next ∷ more) calls =
+    journey_kept entry (slice_range calls entry.1.first_call next.1.first_call) ∷ journeys_of (next ∷ more) calls
+
+-- the calls of the journeys begin at start or later and do not fall, and the last begin at the end at the latest
+abbrev pub AreRising : ℕ → List (Text × Head) → ℕ → Type 0
+AreRising start [] end = start ≤ end
+AreRising start (entry ∷ more) end = (start ≤ entry.1.first_call) × AreRising entry.1.first_call more end
+
+-- the first journey has the calls from the first on, and no call stands before it
+abbrev pub AreInRow : List (Text × Head) → ℕ → Type 0
+AreInRow [] end = end ≡ 0
+AreInRow (entry ∷ more) end = (entry.1.first_call ≡ 0) × AreRising 0 more end

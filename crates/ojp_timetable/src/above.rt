@@ -1,0 +1,121 @@
+//! The lines above the next one.
+ghost use Rattle.std.specs.Prelude.{◌≡◌, ◌+◌, ◌<◌, ◌≤◌, ◌^◌, None, false, length, OnOk, IfOk, IfErr};
+ghost use Rattle.ojp_zones.specs.Noons.{IsZone};
+
+use crate::checks::first_failing;
+use crate::draft::Draft;
+use crate::fields::body;
+use crate::lines::{Line, Open, TableReason};
+use crate::refusals::LineRefused;
+use crate::said::{is_closed, left_open, read_said};
+use std::alloc::Global;
+use std::marker::Model;
+
+/// The most bytes that a file may have.
+pub const BYTES: u64 = 16_777_216;
+
+/// The lines above the next one: how many, their bytes, what they leave open and what they declare.
+#[derive(Drop)]
+pub struct Above {
+    lines: u64,
+    bytes: u64,
+    left: Open,
+    draft: Draft,
+}
+
+impl Model for Above {
+    ghost use Rattle.ojp_timetable.specs.Lines.{Above as AboveValue, IsWellAbove};
+
+    ghost Value = { AboveValue };
+
+    ghost view = { λ a. record { lines = a.lines; bytes = a.bytes; left = a.left; contents = a.draft } };
+
+    ghost invariant = { λ a. IsWellAbove (record { lines = a.lines; bytes = a.bytes; left = a.left; contents = a.draft }) };
+}
+
+impl Above {
+    ghost use Rattle.ojp_timetable.specs.Lines.{IsWellAbove, IsWellLine, after_line, no_lines};
+    ghost use Rattle.ojp_timetable.specs.Checks.{is_cut, is_doubled, is_long, read_line};
+    ghost use Rattle.ojp_timetable.specs.TableText.{reason_of, with_line};
+    ghost use Rattle.ojp_timetable.specs.Refusals.{IsLineRefusal};
+
+    /// No lines; takes no memory.
+    pub fn new(alloc: Global) -> Above
+        ensures { result ≡ no_lines }
+    {
+        Above {
+            lines: 0,
+            bytes: 0,
+            left: Open::Nothing,
+            draft: Draft::new(alloc),
+        }
+    }
+
+    /// How many lines there are.
+    pub fn lines(&self) -> u64
+        ensures { result ≡ self.now.lines }
+    {
+        self.lines
+    }
+
+    /// Whether a file may not end here.
+    pub fn is_cut(&self) -> bool
+        ensures { result ≡ is_cut self.now }
+    {
+        self.lines < 3 || !is_closed(&self.left)
+    }
+
+    // Whether the line ends past the last byte that a file may have.
+    #[tactic(auto, unfolding(crate::specs::Checks::is_long))]
+    fn is_long(&self, text: &[u8]) -> bool
+        ensures value { result ≡ is_long self.now text.now }
+        ensures short { result ≡ false → self.now.bytes + length text.now ≤ BYTES }
+    {
+        text.len() as u64 > BYTES - self.bytes
+    }
+
+    // What the line says, or the first check that it fails.
+    #[tactic(auto, unfolding(crate::specs::Checks::read_line))]
+    fn read_line(&self, text: &[u8]) -> Result<Line, TableReason>
+        ensures value { result ≡ read_line self.now text.now }
+        ensures well { IfOk result (IsWellLine self.now.lines) }
+        ensures new { IfOk result (λ line. is_doubled self.now.contents line ≡ false) }
+        ensures short { OnOk result (self.now.bytes + length text.now ≤ BYTES) }
+    {
+        let line = read_said(self.lines, self.draft.region_text(), &self.left, body(text))?;
+        match first_failing(&self.draft, &self.left, self.is_long(text), &line) {
+            None => Ok(line),
+            Some(reason) => Err(reason),
+        }
+    }
+
+    /// Takes the line.
+    pub fn take(&mut self, alloc: Global, text: &[u8]) -> Result<(), LineRefused>
+        requires { self.old.lines + 1 < 2 ^ 64 }
+        ensures taken { OnOk result (self.new ≡ with_line self.old text.now) }
+        ensures passed { OnOk result (reason_of (read_line self.old text.now) ≡ None) }
+        ensures refused { IfErr result (IsLineRefusal (read_line self.old text.now)) }
+    {
+        let line = match self.read_line(text) {
+            Ok(line) => line,
+            Err(reason) => return Err(LineRefused::Reason(reason)),
+        };
+        let Ok(()) = self.draft.add(alloc, &line) else {
+            return Err(LineRefused::NoMemory);
+        };
+        self.lines += 1;
+        self.bytes += text.len() as u64;
+        self.left = left_open(&line);
+        Ok(())
+    }
+
+    /// What the lines declare; takes no memory.
+    pub fn into_draft(self) -> Draft
+        ensures value { result ≡ self.contents }
+        ensures named { 2 ≤ self.lines → 0 < length self.contents.region }
+        ensures zone { IsZone self.contents.zone }
+    {
+        let Above { draft, .. } = self;
+        draft
+    }
+}

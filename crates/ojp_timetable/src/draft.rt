@@ -1,0 +1,354 @@
+//! What the lines of a file declare, while it grows.
+ghost use Rattle.std.specs.Prelude.{◌≡◌, ◌≤◌, true, false, ◌<◌, OnOk, OnErr, length, option_copied, find, bytes_eq, unwrap_or, option_map, position, [], ◌∷◌, ◌++◌};
+ghost use Rattle.std.specs.List.{position_or_len};
+ghost use Rattle.ojp_values.specs.Texts.{text_lt, same};
+ghost use Rattle.ojp_values.specs.declared.trips.Point.{Point as PointValue};
+ghost use Rattle.ojp_values.specs.declared.trips.Neighbour.{Neighbour as NeighbourValue};
+
+use crate::calls::Call;
+use crate::kept::{Head, PlaceFacts};
+use crate::lines::{Dates, Line};
+use crate::point_lists::{insert_neighbour_at, insert_point};
+use indexmap::IndexMap;
+use ojp_values::{Code, Label, List, Name, Neighbour, NoMemory, Point, StopRef};
+use ojp_zones::zone::Zone;
+use std::alloc::Global;
+use std::marker::Model;
+
+/// What the lines above declare, seen as their contents.
+#[derive(Drop)]
+pub struct Draft {
+    region: Option<Code>,
+    zone: Zone,
+    places: IndexMap<StopRef, PlaceFacts>,
+    points: Vec<Point>,
+    services: IndexMap<Label, Dates>,
+    journeys: IndexMap<Label, Head>,
+    calls: Vec<Call>,
+}
+
+// The exchange point of that reference.
+fn point_of<'a>(points: &'a [Point], stop: &StopRef) -> Option<&'a Point>
+    ensures { option_copied result ≡ find (λ (point : PointValue). bytes_eq stop.now point.stop) points.now }
+{
+    points.iter().find(|point| *stop == point.stop)
+}
+
+// The neighbours at the exchange point of that reference, and none where there is no such point.
+fn neighbours_of<'a>(points: &'a [Point], stop: &StopRef) -> &'a [Neighbour]
+    ensures { result.now ≡ unwrap_or (option_map (λ (point : PointValue). point.neighbours) (find (λ (point : PointValue). bytes_eq stop.now point.stop) points.now)) [] }
+{
+    match point_of(points, stop) {
+        Some(point) => point.neighbours.as_slice(),
+        None => &[],
+    }
+}
+
+impl Model for Draft {
+    ghost use Rattle.std.specs.Prelude.{◌≡◌, map, length};
+    ghost use Rattle.ojp_timetable.specs.Contents.{Contents};
+
+    ghost Value = { Contents };
+
+    ghost use Rattle.ojp_timetable.specs.Kept.{region_kept, place_kept, service_kept, journeys_of, AreInRow};
+
+    ghost view = { λ d. record {
+      region = region_kept d.region;
+      zone = d.zone;
+      places = map place_kept d.places.entries;
+      points = d.points.items;
+      services = map service_kept d.services.entries;
+      journeys = journeys_of d.journeys.entries d.calls.items;
+    } };
+
+    ghost invariant = { λ d. AreInRow d.journeys.entries (length d.calls.items) };
+}
+
+impl Draft {
+    ghost use Rattle.ojp_timetable.specs.Contents.{Contents, no_contents, has_place, has_service, has_journey, service_number, neighbours_at, calls_in, with_call, with_neighbour, with_point, point_with};
+    ghost use Rattle.ojp_timetable.specs.Checks.{is_doubled};
+    ghost use Rattle.ojp_timetable.specs.Kept.{facts_of};
+    ghost use Rattle.ojp_timetable.specs.Tables.{Place as PlaceValue};
+    ghost use Rattle.ojp_timetable.specs.Lines.{grown, new_point, points_with_place, HasRegionFor};
+
+    /// Nothing is declared; takes no memory.
+    pub fn new(alloc: Global) -> Draft
+        ensures { result ≡ no_contents }
+    {
+        Draft {
+            region: None,
+            zone: Zone {
+                east: 0,
+                summer: None,
+            },
+            places: IndexMap::new(alloc),
+            points: Vec::new(alloc),
+            services: IndexMap::new(alloc),
+            journeys: IndexMap::new(alloc),
+            calls: Vec::new(alloc),
+        }
+    }
+
+    /// The bytes of the region's code, and none while it is not declared.
+    pub fn region_text(&self) -> &[u8]
+        ensures { result.now ≡ self.now.region }
+    {
+        match &self.region {
+            Some(code) => code.text(),
+            None => b"",
+        }
+    }
+
+    /// Whether the stop stands above.
+    pub fn has_place(&self, stop: &StopRef) -> bool
+        ensures { result ≡ has_place self.now stop.now }
+    {
+        self.places.contains_key(stop)
+    }
+
+    /// Whether the service stands above.
+    pub fn has_service(&self, id: &Label) -> bool
+        ensures { result ≡ has_service self.now id.now }
+    {
+        self.services.contains_key(id)
+    }
+
+    /// Whether the journey stands above.
+    pub fn has_journey(&self, id: &Label) -> bool
+        ensures { result ≡ has_journey self.now id.now }
+    {
+        self.journeys.contains_key(id)
+    }
+
+    /// The number of the service.
+    pub fn service_number(&self, id: &Label) -> Option<usize>
+        ensures { result ≡ service_number self.now id.now }
+    {
+        self.services.get_index_of(id)
+    }
+
+    /// The number of stops with the exchange points.
+    pub fn places(&self) -> usize
+        ensures { result ≡ length self.now.places }
+    {
+        self.places.len()
+    }
+
+    /// The number of exchange points.
+    pub fn points(&self) -> usize
+        ensures { result ≡ length self.now.points }
+    {
+        self.points.as_slice().len()
+    }
+
+    /// The number of services.
+    pub fn services(&self) -> usize
+        ensures { result ≡ length self.now.services }
+    {
+        self.services.len()
+    }
+
+    /// The number of journeys.
+    pub fn journeys(&self) -> usize
+        ensures { result ≡ length self.now.journeys }
+    {
+        self.journeys.len()
+    }
+
+    /// The number of calls of all journeys.
+    pub fn calls(&self) -> usize
+        ensures { result ≡ calls_in self.now }
+    {
+        self.calls.as_slice().len()
+    }
+
+    /// The region's code.
+    pub fn region(&self) -> Code
+        requires { 0 < length self.now.region }
+        ensures { result ≡ self.now.region }
+    {
+        match &self.region {
+            Some(code) => *code,
+            None => unreachable!(),
+        }
+    }
+
+    /// The neighbours of an exchange point, and none where it does not stand above.
+    #[tactic(auto, unfolding(crate::specs::Contents::neighbours_at, crate::specs::Contents::point_at, ojp_values::specs::Texts::same))]
+    pub fn neighbours_at(&self, stop: &StopRef) -> &[Neighbour]
+        ensures { result.now ≡ neighbours_at self.now stop.now }
+    {
+        neighbours_of(self.points.as_slice(), stop)
+    }
+
+    /// Declares the region.
+    pub fn set_region(&mut self, code: &Code)
+        ensures { self.new ≡ grown self.old (Line.Region code.now) }
+    {
+        self.region = Some(*code);
+    }
+
+    /// Declares the zone.
+    pub fn set_zone(&mut self, zone: &Zone)
+        ensures { self.new ≡ grown self.old (Line.Zone zone.now) }
+    {
+        self.zone = *zone;
+    }
+
+    // Adds an exchange point to the points.
+    fn add_point(&mut self, alloc: Global, stop: &StopRef, change: u32) -> Result<(), NoMemory>
+        requires { 0 < length self.old.region }
+        ensures value { OnOk result (self.new ≡ record self.old { points = with_point self.old.points (new_point self.old.region stop.now change) }) }
+        ensures kept { (self.new.region ≡ self.old.region) × (self.new.zone ≡ self.old.zone) }
+    {
+        let point = Point {
+            region: self.region(),
+            stop: *stop,
+            change,
+            neighbours: List::new(alloc),
+        };
+        insert_point(&mut self.points, point)
+    }
+
+    // Adds a stop or an exchange point to the places.
+    fn push_place(&mut self, stop: &StopRef, change: u32, name: &Name) -> Result<(), NoMemory>
+        requires { has_place self.old stop.now ≡ false }
+        ensures value { OnOk result (self.new ≡ record self.old { places = self.old.places ++ record { stop = stop.now; change = change; name = name.now } ∷ [] }) }
+        ensures kept { (self.new.region ≡ self.old.region) × (self.new.zone ≡ self.old.zone) }
+    {
+        let facts = PlaceFacts {
+            change,
+            name: *name,
+        };
+        let Ok(_) = self.places.insert(*stop, facts) else {
+            return Err(NoMemory);
+        };
+        Ok(())
+    }
+
+    /// Declares a stop, or an exchange point.
+    pub fn add_place(
+        &mut self,
+        alloc: Global,
+        stop: &StopRef,
+        change: u32,
+        name: &Name,
+    ) -> Result<(), NoMemory>
+        requires new { has_place self.old stop.now ≡ false }
+        requires named { 0 < length self.old.region }
+        ensures value { OnOk result (self.new ≡ grown self.old (Line.Place stop.now change name.now)) }
+        ensures kept { (self.new.region ≡ self.old.region) × (self.new.zone ≡ self.old.zone) }
+    {
+        self.push_place(stop, change, name)?;
+        if stop.is_exchange() {
+            return self.add_point(alloc, stop, change);
+        }
+        Ok(())
+    }
+
+    /// Declares a neighbour at an exchange point.
+    pub fn add_neighbour(
+        &mut self,
+        alloc: Global,
+        stop: &StopRef,
+        neighbour: &Neighbour,
+    ) -> Result<(), NoMemory>
+        ensures value { OnOk result (self.new ≡ grown self.old (Line.Neighbour stop.now neighbour.now)) }
+        ensures kept { (self.new.region ≡ self.old.region) × (self.new.zone ≡ self.old.zone) }
+    {
+        insert_neighbour_at(alloc, &mut self.points, stop, neighbour)
+    }
+
+    /// Declares a service.
+    pub fn add_service(&mut self, id: &Label, dates: &Dates) -> Result<(), NoMemory>
+        requires { has_service self.old id.now ≡ false }
+        ensures value { OnOk result (self.new ≡ grown self.old (Line.Service id.now dates.now)) }
+        ensures kept { (self.new.region ≡ self.old.region) × (self.new.zone ≡ self.old.zone) }
+    {
+        let Ok(_) = self.services.insert(*id, *dates) else {
+            return Err(NoMemory);
+        };
+        Ok(())
+    }
+
+    /// Declares a journey, whose calls follow.
+    pub fn add_journey(&mut self, id: &Label, service: &Label, line: &Label) -> Result<(), NoMemory>
+        requires { has_journey self.old id.now ≡ false }
+        ensures value { OnOk result (self.new ≡ grown self.old (Line.Journey id.now service.now line.now)) }
+        ensures kept { (self.new.region ≡ self.old.region) × (self.new.zone ≡ self.old.zone) }
+    {
+        let head = Head {
+            line: *line,
+            service: self.service_number(service).unwrap_or(0),
+            first_call: self.calls.as_slice().len(),
+        };
+        let Ok(_) = self.journeys.insert(*id, head) else {
+            return Err(NoMemory);
+        };
+        Ok(())
+    }
+
+    /// Adds a call to the last journey.
+    pub fn add_call(&mut self, call: &Call) -> Result<(), NoMemory>
+        ensures value { OnOk result (self.new ≡ grown self.old (Line.Call call.now)) }
+        ensures kept { (self.new.region ≡ self.old.region) × (self.new.zone ≡ self.old.zone) }
+    {
+        if self.journeys.is_empty() {
+            return Ok(());
+        }
+        let Ok(()) = self.calls.push(*call) else {
+            return Err(NoMemory);
+        };
+        Ok(())
+    }
+
+    /// Declares what the line declares.
+    #[tactic(auto, unfolding(crate::specs::Checks::is_doubled))]
+    pub fn add(&mut self, alloc: Global, line: &Line) -> Result<(), NoMemory>
+        requires new { is_doubled self.old line.now ≡ false }
+        requires named { HasRegionFor self.old line.now }
+        ensures value { OnOk result (self.new ≡ grown self.old line.now) }
+        ensures kept { OnErr result ((self.new.region ≡ self.old.region) × (self.new.zone ≡ self.old.zone)) }
+    {
+        match line {
+            Line::Header => {}
+            Line::Region(code) => self.set_region(code),
+            Line::Zone(zone) => self.set_zone(zone),
+            Line::Place(stop, change, name) => return self.add_place(alloc, stop, *change, name),
+            Line::Neighbour(stop, neighbour) => return self.add_neighbour(alloc, stop, neighbour),
+            Line::Service(id, dates) => return self.add_service(id, dates),
+            Line::Journey(id, service, line) => return self.add_journey(id, service, line),
+            Line::Call(call) => return self.add_call(call),
+        }
+        Ok(())
+    }
+
+    /// The zone.
+    pub fn zone(&self) -> &Zone
+        ensures { result.now ≡ self.now.zone }
+    {
+        &self.zone
+    }
+
+    /// The change time and the name of the stop, if it stands above.
+    pub fn place_facts(&self, stop: &StopRef) -> Option<PlaceFacts>
+        ensures { result ≡ option_map facts_of (find (λ (place : PlaceValue). bytes_eq stop.now place.stop) self.now.places) }
+    {
+        self.places.get(stop).copied()
+    }
+
+    /// The number of the place, in the order of the file.
+    #[tactic(auto, unfolding(ojp_values::specs::Texts::same))]
+    pub fn place_number(&self, stop: &StopRef) -> Option<usize>
+        ensures { result ≡ position (λ (place : PlaceValue). bytes_eq stop.now place.stop) self.now.places }
+    {
+        self.places.get_index_of(stop)
+    }
+
+    /// The exchange points by rising reference.
+    pub fn point_slice(&self) -> &[Point]
+        ensures { result.now ≡ self.now.points }
+    {
+        self.points.as_slice()
+    }
+}

@@ -1,0 +1,19 @@
+//! What is kept of a stop and of a journey beside its name.
+
+use ojp_values::{Label, Name};
+
+/// The change time of a stop in seconds, and its name.
+#[derive(Clone, Copy, Debug)]
+pub struct PlaceFacts {
+    pub change: u32,
+    pub name: Name,
+}
+
+/// The line of a journey, the number of its service, and where its calls begin in the row of all
+/// calls. They end where those of the next journey begin.
+#[derive(Clone, Copy, Debug)]
+pub struct Head {
+    pub line: Label,
+    pub service: usize,
+    pub first_call: usize,
+}
