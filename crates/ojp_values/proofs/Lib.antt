@@ -5,3 +5,4 @@ pub mod Numerals
 pub mod Escapes
 pub mod Calendar
 pub mod FieldTexts
+pub mod StopParts

@@ -4,4 +4,5 @@ pub mod FieldTexts
 pub mod Limits
 pub mod Lists
 pub mod Numbers
+pub mod Stops
 pub mod Texts

@@ -5,6 +5,7 @@ ghost use Rattle.ojp_values.specs.Texts.{is_code, is_stop_ref, is_label, is_name
 ghost use Rattle.ojp_values.specs.Numbers.{duration_text};
 ghost use Rattle.ojp_values.specs.Dates.{day_text, moment_text};
 ghost use Rattle.ojp_values.specs.FieldTexts.{IsFieldText};
+ghost use Rattle.ojp_values.specs.Stops.{StopsHaveParts};
 
 /// The text of a value of each kind is 1 to 512 bytes, and none of them is `<`.
 pub fn texts_are_bare()
@@ -25,4 +26,9 @@ pub fn texts_spell_one_value()
     ensures day { (m n : ℕ) → m ≤ 84_005 → n ≤ 84_005 → day_text m ≡ day_text n → m ≡ n }
     ensures duration { (m n : ℕ) → m < 2 ^ 32 → n < 2 ^ 32 → duration_text m ≡ duration_text n → m ≡ n }
     ensures number { (m n : ℕ) → m < 2 ^ 32 → n < 2 ^ 32 → decimal m ≡ decimal n → m ≡ n }
+{}
+
+/// A reference to a stop is a code or `x`, a colon and a label, and each such text is one.
+pub fn stops_have_parts()
+    ensures { StopsHaveParts }
 {}
