@@ -13,3 +13,4 @@ pub mod Cuts
 pub mod OneKind
 pub mod Runs
 pub mod Built
+pub mod Rebuilt

@@ -10,3 +10,4 @@ pub mod Machine
 pub mod Parts
 pub mod Running
 pub mod Reached
+pub mod Whole
