@@ -1,7 +1,7 @@
 -- The journeys that a row of calls makes, and how they grow.
-use Rattle.std.proofs.Common.{◌≡◌, ℕ, suc, Bool, true, false, cond, ◌||◌, ◌+◌, ◌-◌, ◌≤◌, List, [], ◌∷◌, ◌++◌, length, take, drop, map, refl, sym, ◌∙◌, ap, arith, subst, true≢false, length-append, length-drop, length-take-le, slice_range}
+use Rattle.std.proofs.Common.{◌≡◌, ℕ, zero, suc, Bool, true, false, cond, ◌||◌, ◌+◌, ◌-◌, ◌≤◌, List, [], ◌∷◌, ◌++◌, length, take, drop, map, refl, sym, ◌∙◌, ap, arith, subst, true≢false, length-append, length-drop, length-take-le, slice_range}
 use Rattle.std.specs.List.{sum_by, list_any}
-use Rattle.std.specs.Prelude.{Option, Some, None, is_some, bytes_eq}
+use Rattle.std.specs.Prelude.{Option, Some, None, is_some, bytes_eq, unwrap_or, option_map, slice_get}
 use Rattle.std.specs.Map.{lookup}
 use Rattle.std.proofs.lemmas.List.Sums.{sum_by-cons}
 use Rattle.std.proofs.lemmas.List.{drop-append-le, take-append-le, take_all}
@@ -9,7 +9,8 @@ use Rattle.std.proofs.Math.Seq.{drop-length}
 use Rattle.ojp_values.specs.Texts.{Text}
 use Rattle.ojp_timetable.specs.Tables.{Journey, Call}
 use Rattle.ojp_timetable.specs.Contents.{with_call}
-use Rattle.ojp_timetable.specs.Kept.{AreInRow, AreRising, journey_kept, journeys_of}
+use Rattle.ojp_timetable.specs.Kept.{AreInRow, AreRising, end_at, journey_kept, journeys_of}
+use Rattle.ojp_timetable.specs.Views.{calls_at, view_of}
 use Rattle.ojp_timetable.specs.declared.kept.Head.{Head}
 
 -- there are as many journeys as entries
@@ -135,3 +136,57 @@ absent_journey test id agree entries calls h = none_of (lookup test entries) (an
 pub in_row-push : (entries : List (Text × Head)) (end : ℕ) → (entries ≡ [] → ⊥) → AreInRow entries end → AreInRow entries (end + 1)
 in_row-push [] end some h = absurd (some refl)
 in_row-push (e ∷ more) end some h = in_row-call e more end h
+
+abbrev pub kept_at : List (Text × Head) → List Call → ℕ → Text × Head → Journey
+kept_at entries calls i e = journey_kept e (slice_range calls e.1.first_call (end_at entries i (length calls)))
+
+-- the journey of a number has the calls from its first on to the first of the next
+journey_from : (e : Text × Head) (more : List (Text × Head)) (calls : List Call) (i : ℕ) → e.1.first_call ≤ length calls → AreRising e.1.first_call more (length calls)
+    → slice_get (journeys_of (e ∷ more) calls) i ≡ option_map (kept_at (e ∷ more) calls i) (slice_get (e ∷ more) i)
+journey_from e [] calls zero h k = ap (λ (cs : List Call). Some (journey_kept e cs)) (sym (to_end calls e.1.first_call (length calls) refl h))
+journey_from e [] calls (suc i) h k = refl
+journey_from e (next ∷ more) calls zero h k = refl
+journey_from e (next ∷ more) calls (suc i) h k = journey_from next more calls i (rising_end next.1.first_call more (length calls) k.1) k.1
+
+in_order : (e : Text × Head) (more : List (Text × Head)) (end : ℕ) (i : ℕ) (x : Text × Head) → e.1.first_call ≤ end → AreRising e.1.first_call more end
+    → slice_get (e ∷ more) i ≡ Some x → (x.1.first_call ≤ end_at (e ∷ more) i end) × (end_at (e ∷ more) i end ≤ end)
+in_order e [] end zero x h k at = (omega (arith, ap (λ (o : Option (Text × Head)). unwrap_or (option_map (λ (e : Text × Head). e.1.first_call) o) 0) at), omega arith)
+in_order e [] end (suc i) x h k at = absurd (cc)
+in_order e (next ∷ more) end zero x h k at =
+    (omega (arith, k.0, ap (λ (o : Option (Text × Head)). unwrap_or (option_map (λ (e : Text × Head). e.1.first_call) o) 0) at), rising_end next.1.first_call more end k.1)
+in_order e (next ∷ more) end (suc i) x h k at = in_order next more end i x (rising_end next.1.first_call more end k.1) k.1 at
+
+from_first : (e : Text × Head) (more : List (Text × Head)) (end : ℕ) → AreInRow (e ∷ more) end → (e.1.first_call ≤ end) × AreRising e.1.first_call more end
+from_first e more end h = (omega (arith, h.0, rising_end 0 more end h.1), subst (λ (n : ℕ). AreRising n more end) (sym h.0) h.1)
+
+pub journey_at : (entries : List (Text × Head)) (calls : List Call) (i : ℕ) → AreInRow entries (length calls)
+    → slice_get (journeys_of entries calls) i ≡ option_map (kept_at entries calls i) (slice_get entries i)
+journey_at [] calls i h = refl
+journey_at (e ∷ more) calls i h = let f = from_first e more (length calls) h in journey_from e more calls i f.0 f.1
+
+-- its calls begin where they end at the latest, and end within all calls
+pub order_at : (entries : List (Text × Head)) (end : ℕ) (i : ℕ) (x : Text × Head) → AreInRow entries end → slice_get entries i ≡ Some x
+    → (x.1.first_call ≤ end_at entries i end) × (end_at entries i end ≤ end)
+order_at [] end i x h at = absurd (cc)
+order_at (e ∷ more) end i x h at = let f = from_first e more end h in in_order e more end i x f.0 f.1 at
+
+pub calls_are : (entries : List (Text × Head)) (calls : List Call) (i : ℕ) (e : Text × Head) → AreInRow entries (length calls) → slice_get entries i ≡ Some e
+    → calls_at (journeys_of entries calls) i ≡ slice_range calls e.1.first_call (end_at entries i (length calls))
+unfolding calls_at
+calls_are entries calls i e h at =
+    ap (λ (o : Option Journey). unwrap_or (option_map (λ (journey : Journey). journey.calls) o) [])
+    (journey_at entries calls i h ∙ ap (option_map (kept_at entries calls i)) at)
+
+pub view_is : (entries : List (Text × Head)) (calls : List Call) (i : ℕ) (e : Text × Head) → AreInRow entries (length calls) → slice_get entries i ≡ Some e
+    → Some (record { id = e.0; line = e.1.line; service = e.1.service; calls = length (calls_at (journeys_of entries calls) i) }) ≡ option_map view_of (slice_get (journeys_of entries calls) i)
+view_is entries calls i e h at =
+    ap (λ (cs : List Call). Some (view_of (journey_kept e cs))) (calls_are entries calls i e h at)
+    ∙ sym (ap (option_map view_of) (journey_at entries calls i h ∙ ap (option_map (kept_at entries calls i)) at))
+
+pub no_journey : (entries : List (Text × Head)) (calls : List Call) (i : ℕ) → AreInRow entries (length calls) → slice_get entries i ≡ None → slice_get (journeys_of entries calls) i ≡ None
+no_journey entries calls i h at = journey_at entries calls i h ∙ ap (option_map (kept_at entries calls i)) at
+
+pub no_calls : (entries : List (Text × Head)) (calls : List Call) (i : ℕ) → AreInRow entries (length calls) → slice_get entries i ≡ None → calls_at (journeys_of entries calls) i ≡ []
+unfolding calls_at
+no_calls entries calls i h at =
+    ap (λ (o : Option Journey). unwrap_or (option_map (λ (journey : Journey). journey.calls) o) []) (no_journey entries calls i h at)

@@ -1,5 +1,5 @@
 -- What is kept of the contents: entries by their names, and the calls of all journeys in one row.
-use Rattle.std.specs.Prelude.{ℕ, ◌≤◌, ◌≡◌, List, [], ◌∷◌, Option, Some, None, map, drop, length, slice_range}
+use Rattle.std.specs.Prelude.{ℕ, ◌≤◌, ◌≡◌, List, [], ◌∷◌, Option, Some, None, map, drop, length, slice_range, slice_get, option_map, unwrap_or}
 use Rattle.ojp_values.specs.Texts.{Text}
 use Rattle.ojp_timetable.specs.Tables.{Place, Service, Journey, Call}
 use Rattle.ojp_timetable.specs.declared.kept.PlaceFacts.{PlaceFacts}
@@ -39,3 +39,7 @@ AreRising start (entry ∷ more) end = (start ≤ entry.1.first_call) × AreRisi
 abbrev pub AreInRow : List (Text × Head) → ℕ → Type 0
 AreInRow [] end = end ≡ 0
 AreInRow (entry ∷ more) end = (entry.1.first_call ≡ 0) × AreRising 0 more end
+
+-- where the calls of the journey behind the one of that number begin, which is the end of all calls behind the last
+abbrev pub end_at : List (Text × Head) → ℕ → ℕ → ℕ
+end_at entries i end = unwrap_or (option_map (λ (e : Text × Head). e.1.first_call) (slice_get (drop 1 entries) i)) end

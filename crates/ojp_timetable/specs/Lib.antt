@@ -7,6 +7,7 @@ pub mod Said
 pub mod Checks
 pub mod TableText
 pub mod Refusals
+pub mod Views
 pub mod Runs
 pub mod Journeys
 pub mod Rows

@@ -1,12 +1,11 @@
 //! What the lines of a file declare, while it grows.
-ghost use Rattle.std.specs.Prelude.{◌≡◌, ◌≤◌, true, false, ◌<◌, OnOk, OnErr, length, option_copied, find, bytes_eq, unwrap_or, option_map, position, [], ◌∷◌, ◌++◌};
-ghost use Rattle.std.specs.List.{position_or_len};
-ghost use Rattle.ojp_values.specs.Texts.{text_lt, same};
+ghost use Rattle.std.specs.Prelude.{◌≡◌, ◌≤◌, false, ◌<◌, OnOk, OnErr, length, option_copied, find, bytes_eq, unwrap_or, option_map, position, slice_get, slice_range, IfSome, ◌^◌, [], ◌∷◌, ◌++◌};
+ghost use Rattle.ojp_timetable.specs.Kept.{end_at};
 ghost use Rattle.ojp_values.specs.declared.trips.Point.{Point as PointValue};
 ghost use Rattle.ojp_values.specs.declared.trips.Neighbour.{Neighbour as NeighbourValue};
 
 use crate::calls::Call;
-use crate::kept::{Head, PlaceFacts};
+use crate::kept::{Head, JourneyView, PlaceFacts, PlaceView};
 use crate::lines::{Dates, Line};
 use crate::point_lists::{insert_neighbour_at, insert_point};
 use indexmap::IndexMap;
@@ -44,6 +43,53 @@ fn neighbours_of<'a>(points: &'a [Point], stop: &StopRef) -> &'a [Neighbour]
     }
 }
 
+// The journey of that number, with what is kept of it.
+fn head_at(journeys: &IndexMap<Label, Head>, i: usize) -> Option<(Label, Head)>
+    ensures entry { result ≡ slice_get journeys.now.entries i }
+    ensures small { IfSome result (λ _. i < 2 ^ 63) }
+{
+    if i >= journeys.len() {
+        return None;
+    }
+    match journeys.get_index(i) {
+        None => None,
+        Some((id, head)) => Some((*id, *head)),
+    }
+}
+
+// Where the calls of the journey behind that one begin, which is the end of all calls behind the last.
+fn end_at(journeys: &IndexMap<Label, Head>, i: usize, end: usize) -> usize
+    requires { i < 2 ^ 63 }
+    ensures { result ≡ end_at journeys.now.entries i end }
+{
+    match head_at(journeys, i + 1) {
+        None => end,
+        Some((_, next)) => next.first_call,
+    }
+}
+
+// A journey with the number of its calls.
+fn view_of(entry: &(Label, Head), calls: usize) -> JourneyView
+    ensures { result ≡ record { id = entry.now.0; line = entry.now.1.line; service = entry.now.1.service; calls = calls } }
+{
+    let (id, head) = entry;
+    JourneyView {
+        id: *id,
+        line: head.line,
+        service: head.service,
+        calls,
+    }
+}
+
+// The calls from the one to the other.
+fn between(calls: &[Call], from: usize, to: usize) -> &[Call]
+    requires order { from ≤ to }
+    requires within { to ≤ length calls.now }
+    ensures { result.now ≡ slice_range calls.now from to }
+{
+    &calls[from..to]
+}
+
 impl Model for Draft {
     ghost use Rattle.std.specs.Prelude.{◌≡◌, map, length};
     ghost use Rattle.ojp_timetable.specs.Contents.{Contents};
@@ -68,6 +114,7 @@ impl Draft {
     ghost use Rattle.ojp_timetable.specs.Contents.{Contents, no_contents, has_place, has_service, has_journey, service_number, neighbours_at, calls_in, with_call, with_neighbour, with_point, point_with};
     ghost use Rattle.ojp_timetable.specs.Checks.{is_doubled};
     ghost use Rattle.ojp_timetable.specs.Kept.{facts_of};
+    ghost use Rattle.ojp_timetable.specs.Views.{calls_at, dates_of, place_view, view_of};
     ghost use Rattle.ojp_timetable.specs.Tables.{Place as PlaceValue};
     ghost use Rattle.ojp_timetable.specs.Lines.{grown, new_point, points_with_place, HasRegionFor};
 
@@ -350,5 +397,55 @@ impl Draft {
         ensures { result.now ≡ self.now.points }
     {
         self.points.as_slice()
+    }
+
+    /// The place of that number, in the order of the file.
+    pub fn place_at(&self, i: usize) -> Option<PlaceView>
+        ensures { result ≡ option_map place_view (slice_get self.now.places i) }
+    {
+        match self.places.get_index(i) {
+            None => None,
+            Some((stop, facts)) => Some(PlaceView {
+                stop: *stop,
+                change: facts.change,
+                name: facts.name,
+            }),
+        }
+    }
+
+    /// The days of the service of that number.
+    pub fn dates_at(&self, i: usize) -> Option<Dates>
+        ensures { result ≡ option_map dates_of (slice_get self.now.services i) }
+    {
+        match self.services.get_index(i) {
+            None => None,
+            Some((_, dates)) => Some(*dates),
+        }
+    }
+
+    /// The calls of the journey of that number, and none where there is no such journey.
+    pub fn calls_at(&self, i: usize) -> &[Call]
+        ensures { result.now ≡ calls_at self.now.journeys i }
+    {
+        let Some((_, head)) = head_at(&self.journeys, i) else {
+            return &[];
+        };
+        let calls = self.calls.as_slice();
+        between(
+            calls,
+            head.first_call,
+            end_at(&self.journeys, i, calls.len()),
+        )
+    }
+
+    /// The journey of that number.
+    pub fn journey_at(&self, i: usize) -> Option<JourneyView>
+        ensures { result ≡ option_map view_of (slice_get self.now.journeys i) }
+    {
+        let Some(entry) = head_at(&self.journeys, i) else {
+            return None;
+        };
+        let calls = self.calls_at(i).len();
+        Some(view_of(&entry, calls))
     }
 }

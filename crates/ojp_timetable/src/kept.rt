@@ -1,6 +1,6 @@
 //! What is kept of a stop and of a journey beside its name.
 
-use ojp_values::{Label, Name};
+use ojp_values::{Label, Name, StopRef};
 
 /// The change time of a stop in seconds, and its name.
 #[derive(Clone, Copy, Debug)]
@@ -16,4 +16,21 @@ pub struct Head {
     pub line: Label,
     pub service: usize,
     pub first_call: usize,
+}
+
+/// A journey: its label, its line, the number of its service, and how many calls it has.
+#[derive(Clone, Copy, Debug, PartialEq, Eq)]
+pub struct JourneyView {
+    pub id: Label,
+    pub line: Label,
+    pub service: usize,
+    pub calls: usize,
+}
+
+/// A stop or an exchange point with its change time in seconds and its name.
+#[derive(Clone, Copy, Debug, PartialEq, Eq)]
+pub struct PlaceView {
+    pub stop: StopRef,
+    pub change: u32,
+    pub name: Name,
 }

@@ -12,7 +12,14 @@ pub mod lines;
 mod point_lists;
 mod read_words;
 pub mod reading;
+mod reason_words;
 pub mod refusals;
 mod said;
 pub mod table;
 pub mod words;
+
+pub use calls::Call;
+pub use kept::{JourneyView, PlaceView};
+pub use lines::TableReason;
+pub use refusals::TableRefused;
+pub use table::Timetable;

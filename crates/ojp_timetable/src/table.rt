@@ -1,8 +1,11 @@
 //! A timetable that was read.
-ghost use Rattle.std.specs.Prelude.{◌≡◌, ◌≤◌, ◌<◌, length, slice_get, IfOk, IfErr, Some};
+ghost use Rattle.std.specs.Prelude.{◌≡◌, ◌≤◌, ◌<◌, length, slice_get, position, bytes_eq, option_map, ◌↔◌, IsTrue, IfOk, IfErr, Some};
 
 use crate::above::Above;
+use crate::calls::Call;
 use crate::draft::Draft;
+use crate::kept::{JourneyView, PlaceView};
+use crate::lines::Dates;
 use crate::reading::read_lines;
 use crate::refusals::TableRefused;
 use ojp_values::{Code, Day, Instant, Name, Point, StopRef};
@@ -31,8 +34,9 @@ impl Model for Timetable {
 }
 
 impl Timetable {
-    ghost use Rattle.ojp_timetable.specs.Tables.{change_of, has, name_of, place_of};
-    ghost use Rattle.ojp_timetable.specs.Runs.{moment};
+    ghost use Rattle.ojp_timetable.specs.Tables.{Place as PlaceValue, change_of, has, name_of};
+    ghost use Rattle.ojp_timetable.specs.Runs.{RunsOn, moment};
+    ghost use Rattle.ojp_timetable.specs.Views.{calls_at, dates_of, place_view, view_of};
     ghost use Rattle.ojp_timetable.specs.TableText.{IsText};
     ghost use Rattle.ojp_timetable.specs.Refusals.{IsRefusal};
 
@@ -114,5 +118,91 @@ impl Timetable {
         ensures { slice_get self.now.points i ≡ Some result.now }
     {
         &self.draft.point_slice()[i]
+    }
+
+    /// The number of stops with the exchange points.
+    pub fn places(&self) -> usize
+        ensures { result ≡ length self.now.places }
+    {
+        self.draft.places()
+    }
+
+    /// The number of the stop among the places, which stand in the order of the file.
+    pub fn place_of(&self, stop: StopRef) -> Option<usize>
+        ensures { result ≡ position (λ (place : PlaceValue). bytes_eq stop place.stop) self.now.places }
+    {
+        self.draft.place_number(&stop)
+    }
+
+    /// The place of that number.
+    pub fn place(&self, i: usize) -> PlaceView
+        requires { i < length self.now.places }
+        ensures { Some result ≡ option_map place_view (slice_get self.now.places i) }
+    {
+        match self.draft.place_at(i) {
+            Some(place) => place,
+            None => unreachable!(),
+        }
+    }
+
+    /// The number of services.
+    pub fn services(&self) -> usize
+        ensures { result ≡ length self.now.services }
+    {
+        self.draft.services()
+    }
+
+    /// The first and last day of the service of that number, and its weekdays.
+    pub fn dates(&self, service: usize) -> Dates
+        requires { service < length self.now.services }
+        ensures { Some result ≡ option_map dates_of (slice_get self.now.services service) }
+    {
+        match self.draft.dates_at(service) {
+            Some(dates) => dates,
+            None => unreachable!(),
+        }
+    }
+
+    /// Whether the service of that number runs on the day.
+    pub fn runs_on(&self, service: usize, day: Day) -> bool
+        requires { service < length self.now.services }
+        ensures { IsTrue result ↔ RunsOn self.now service day }
+    {
+        let dates = self.dates(service);
+        let day = day.number();
+        dates.first <= day && day <= dates.last && dates.marks[(day as usize + 3) % 7]
+    }
+
+    /// The number of journeys.
+    pub fn journeys(&self) -> usize
+        ensures { result ≡ length self.now.journeys }
+    {
+        self.draft.journeys()
+    }
+
+    /// The journey of that number.
+    pub fn journey(&self, i: usize) -> JourneyView
+        requires { i < length self.now.journeys }
+        ensures { Some result ≡ option_map view_of (slice_get self.now.journeys i) }
+    {
+        match self.draft.journey_at(i) {
+            Some(journey) => journey,
+            None => unreachable!(),
+        }
+    }
+
+    /// The calls of the journey of that number, and none where there is no such journey.
+    pub fn calls(&self, i: usize) -> &[Call]
+        ensures { result.now ≡ calls_at self.now.journeys i }
+    {
+        self.draft.calls_at(i)
+    }
+
+    /// The call at that place of the journey of that number, both counted from 0.
+    pub fn call(&self, i: usize, position: usize) -> Call
+        requires { position < length (calls_at self.now.journeys i) }
+        ensures { slice_get (calls_at self.now.journeys i) position ≡ Some result }
+    {
+        self.draft.calls_at(i)[position]
     }
 }
