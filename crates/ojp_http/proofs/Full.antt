@@ -1,0 +1,92 @@
+-- Bytes that are full, by the count of their lines.
+use Rattle.std.proofs.Common.{◌≡◌, ℕ, ◌+◌, ◌≤◌, ◌<◌, ◌⊎◌, Bool, true, false, not, ◌&&◌, ◌||◌, IsTrue, List, [], ◌∷◌, ◌++◌, length, refl, sym, ap, ◌∙◌, arith, inl, inr, subst, nat_le, nat_eq, if◌then◌else◌}
+use Rattle.std.specs.Prelude.{◌==◌}
+use Rattle.ojp_http.specs.declared.scan.Begun.TheVariants.{Nothing, Return, Other}
+use Rattle.ojp_http.specs.declared.scan.Begun.{Begun}
+use Rattle.ojp_http.specs.declared.scan.Scan.{Scan}
+use Rattle.ojp_http.specs.Scanned.{no_lines, scan_step, scan_from, is_full_by, end_by, begun_step}
+use Rattle.ojp_http.specs.Heads.{counted_lines, IsFullAt}
+use Rattle.ojp_http.proofs.Scans.{are_filled, counts}
+use Rattle.std.proofs.lemmas.Bool.Decides.{nat_tests}
+
+pub le_of_test : (a b : ℕ) → nat_le a b ≡ true → a ≤ b
+le_of_test a b h = grind (arith, nat_tests)
+
+pub test_of_le : (a b : ℕ) → a ≤ b → nat_le a b ≡ true
+test_of_le a b h = grind (arith, nat_tests)
+
+true_of_and : (a b : Bool) → (a && b) ≡ true → (a ≡ true) × (b ≡ true)
+true_of_and true b e = (refl, e)
+true_of_and false b e = absurd (cc)
+
+pub not_true : (b : Bool) → not b ≡ true → b ≡ false
+not_true true e = absurd (cc)
+not_true false e = refl
+
+not_not : (b : Bool) → not (not b) ≡ b
+not_not true = refl
+not_not false = refl
+
+true_of_or : (a b : Bool) → (a || b) ≡ true → (a ≡ true) ⊎ (b ≡ true)
+true_of_or true b e = inl refl
+true_of_or false b e = inr e
+
+or_true : (a : Bool) → (a || true) ≡ false → ⊥
+or_true true x = cc
+or_true false x = cc
+
+clash_left : {a : Bool} (b : Bool) → a ≡ true → (a || b) ≡ false → ⊥
+clash_left b e o = let x : (true || b) ≡ false = ap (λ v. v || b) (sym e) ∙ o in cc
+
+clash_right : (a : Bool) {b c : Bool} → b ≡ true → c ≡ true → (a || (b && c)) ≡ false → ⊥
+clash_right a {b} {c} e f o = let x : (a || (true && true)) ≡ false = (λ i. a || (sym e i && sym f i)) ∙ o in or_true a x
+
+-- full by the count is full
+pub full_by : (most : ℕ) (bytes : List ℕ) (s : Scan) → s ≡ scan_from no_lines bytes → is_full_by most (length bytes) s ≡ true → IsFullAt most bytes
+full_by most bytes s is full =
+    let c = counts bytes in
+    elim (true_of_or (nat_le 16384 (length bytes)) (nat_le most s.counted && not s.has_empty) full) [
+      | inl long ↦ inl (le_of_test 16384 (length bytes) long)
+      | inr lined ↦
+          let two = true_of_and (nat_le most s.counted) (not s.has_empty) lined in
+          inr (
+            subst (λ (n : ℕ). most ≤ n) (ap (λ (v : Scan). v.counted) is ∙ c.1.counted) (le_of_test most s.counted two.0),
+            sym (not_not (are_filled (counted_lines bytes))) ∙ ap not (sym (ap (λ (v : Scan). v.has_empty) is ∙ c.1.has_empty)) ∙ two.1,
+          )
+    ]
+
+-- what is not full by the count is not full
+pub not_full_by : (most : ℕ) (bytes : List ℕ) (s : Scan) → s ≡ scan_from no_lines bytes → is_full_by most (length bytes) s ≡ false → ¬ (IsFullAt most bytes)
+not_full_by most bytes s is shut full =
+    let c = counts bytes in
+    elim full [
+      | inl long ↦ let t = test_of_le 16384 (length bytes) long in absurd (clash_left (nat_le most s.counted && not s.has_empty) t shut)
+      | inr lined ↦
+          let few = test_of_le most s.counted (subst (λ (n : ℕ). most ≤ n) (sym (ap (λ (v : Scan). v.counted) is ∙ c.1.counted)) lined.0) in
+          let none : not s.has_empty ≡ true = ap not (ap (λ (v : Scan). v.has_empty) is ∙ c.1.has_empty) ∙ not_not (are_filled (counted_lines bytes)) ∙ lined.1 in
+          absurd (clash_right (nat_le 16384 (length bytes)) few none shut)
+    ]
+
+abbrev counted_of : Scan → ℕ
+counted_of s = s.counted
+
+first_line : (t : Bool) (n : ℕ) (e : Bool) → counted_of (if t then (record { begun = Nothing; counted = 0; has_empty = e }) else (record { begun = Nothing; counted = n + 1; has_empty = true })) ≤ n + 1
+first_line true n e = omega arith
+first_line false n e = omega arith
+
+ended : (b : Begun) (n : ℕ) (e : Bool) → (end_by b n e).counted ≤ n + 1
+ended Nothing n e = first_line (n == 0) n e
+ended Return n e = first_line (n == 0) n e
+ended Other n e = omega arith
+
+-- each byte adds at most one line
+pub counted_step : (s : Scan) (b : ℕ) → (scan_step s b).counted ≤ s.counted + 1
+counted_step s b = elim (b == 10) as
+    (λ t. counted_of (if t then end_by s.begun s.counted s.has_empty else record { begun = begun_step s.begun b; counted = s.counted; has_empty = s.has_empty }) ≤ s.counted + 1) [
+      | true ↦ ended s.begun s.counted s.has_empty
+      | false ↦ omega arith
+    ]
+
+pub counted_from : (bytes : List ℕ) (s : Scan) → (scan_from s bytes).counted ≤ s.counted + length bytes
+counted_from [] s = omega arith
+counted_from (b ∷ bytes) s = omega (arith, counted_from bytes (scan_step s b), counted_step s b)

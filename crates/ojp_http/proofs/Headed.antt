@@ -1,0 +1,207 @@
+-- Heads at their newest byte, the same for requests, replies and trailers.
+use Rattle.std.proofs.Common.{◌≡◌, ℕ, ◌+◌, ◌≤◌, ◌<◌, ◌⊎◌, Bool, true, false, List, [], ◌∷◌, ◌++◌, length, refl, sym, ap, ◌∙◌, arith, append_assoc, append-nil, subst, inl, inr, length-append, suc, nat_le, ◌||◌, ◌&&◌}
+use Rattle.httparse.specs.Grammar.{Field, LineEnd, print_blank, print_end, lf}
+use Rattle.ojp_http.specs.declared.scan.Scan.{Scan}
+use Rattle.ojp_http.specs.declared.outcome.HeadOutcome.{HeadOutcome}
+use Rattle.ojp_http.specs.declared.outcome.HeadOutcome.TheVariants.{Found, Malformed, TooLarge, More}
+use Rattle.ojp_http.specs.Scanned.{no_lines, scan_from, is_full_by}
+use Rattle.ojp_http.specs.Heads.{IsFullAt, IsFull, IsWithin, HasHead, HasNoHead, IsMalformed, counted_lines}
+use Rattle.ojp_http.specs.Outcomes.{HasGrown, Decides}
+use Rattle.std.proofs.lemmas.List.{append_cancel_right}
+use Rattle.ojp_http.specs.declared.scan.Begun.TheVariants.{Nothing}
+use Rattle.ojp_http.proofs.Full.{full_by, not_full_by, test_of_le}
+use Rattle.ojp_http.proofs.Lines.{Heading, heading_has_empty, heading_ends_in, print_lines, return_of, print_end-is, body_scan}
+
+or-true : (b : Bool) → (b || true) ≡ true
+or-true true = refl
+or-true false = refl
+
+none_behind : (a b : List ℕ) → a ++ b ≡ [] → b ≡ []
+none_behind [] b e = e
+none_behind (x ∷ a) b e = absurd (cc)
+
+-- a front of some bytes and one more is all of them, or a front of those before the last
+pub front_cases : (front rest kept : List ℕ) (b : ℕ) → front ++ rest ≡ kept ++ b ∷ []
+    → (rest ≡ []) ⊎ ((more : List ℕ) × (kept ≡ front ++ more) × (rest ≡ more ++ b ∷ []))
+front_cases [] rest kept b e = inr (kept, refl, e)
+front_cases (x ∷ []) [] [] b e = inl refl
+front_cases (x ∷ front) rest [] b e =
+    let t : front ++ rest ≡ [] = cc in
+    inl (none_behind front rest t)
+front_cases (x ∷ front) rest (y ∷ kept) b e =
+    let t : front ++ rest ≡ kept ++ b ∷ [] = cc in
+    let h : x ≡ y = cc in
+    elim (front_cases front rest kept b t) [
+      | inl n ↦ inl n
+      | inr m ↦ inr (m.0, ap (λ (v : ℕ). v ∷ kept) (sym h) ∙ ap (λ (l : List ℕ). x ∷ l) m.1, m.2)
+    ]
+
+-- two fronts of the same bytes: one is the other and more
+pub two_fronts : (a b c d : List ℕ) → a ++ b ≡ c ++ d
+    → ((more : List ℕ) × (c ≡ a ++ more) × (b ≡ more ++ d)) ⊎ ((more : List ℕ) × (0 < length more) × (a ≡ c ++ more) × (d ≡ more ++ b))
+two_fronts [] b c d e = inl (c, refl, e)
+two_fronts (x ∷ a) b [] d e = inr (x ∷ a, omega arith, refl, sym e)
+two_fronts (x ∷ a) b (y ∷ c) d e =
+    let t : a ++ b ≡ c ++ d = cc in
+    let h : x ≡ y = cc in
+    elim (two_fronts a b c d t) [
+      | inl m ↦ inl (m.0, ap (λ (v : ℕ). v ∷ c) (sym h) ∙ ap (λ (l : List ℕ). x ∷ l) m.1, m.2)
+      | inr m ↦ inr (m.0, m.1, ap (λ (v : ℕ). v ∷ a) h ∙ ap (λ (l : List ℕ). y ∷ l) m.2, m.3)
+    ]
+
+-- what a grammar of heads gives: the bytes of a head, those that follow it, and its lines
+pub record Grammar {H : Type 0} (Reads : List ℕ → H → List ℕ → Type 0) (fields : H → List Field) (extra : ℕ) : Type 0 where
+  pub more : (bytes : List ℕ) (h : H) (rest more : List ℕ) → Reads bytes h rest → Reads (bytes ++ more) h (rest ++ more)
+  pub front : (bytes : List ℕ) (h : H) (rest : List ℕ) → Reads bytes h rest → (front : List ℕ) × (bytes ≡ front ++ rest) × Reads front h []
+  pub heading : (text : List ℕ) (h : H) → Reads text h [] → Heading (length (fields h) + extra) text
+
+no_end : (a : List ℕ) (x : ℕ) → [] ≡ a ++ x ∷ [] → ⊥
+no_end [] x e = cc
+no_end (y ∷ a) x e = cc
+
+same_last : (a b : List ℕ) (x y : ℕ) → a ++ x ∷ [] ≡ b ++ y ∷ [] → x ≡ y
+same_last [] [] x y e = cc
+same_last [] (v ∷ b) x y e = let t : [] ≡ b ++ y ∷ [] = cc in absurd (no_end b y t)
+same_last (u ∷ a) [] x y e = let t : a ++ x ∷ [] ≡ [] = cc in absurd (no_end a x (sym t))
+same_last (u ∷ a) (v ∷ b) x y e = let t : a ++ x ∷ [] ≡ b ++ y ∷ [] = cc in same_last a b x y t
+
+-- so many lines are full
+full_lines : (most len n : ℕ) → most ≤ n → is_full_by most len (record { begun = Nothing; counted = n; has_empty = false }) ≡ true
+full_lines most len n h = ap (λ v. nat_le 16384 len || (v && true)) (test_of_le most n h) ∙ or-true (nat_le 16384 len)
+
+module _ {H : Type 0} (Reads : List ℕ → H → List ℕ → Type 0) (fields : H → List Field) (most : ℕ) where
+  -- no proper front of the bytes is full
+  grown_within : (kept bytes front rest : List ℕ) (b : ℕ) → ¬ (IsFull most kept) → bytes ≡ kept ++ b ∷ [] → bytes ≡ front ++ rest → IsWithin most front
+  grown_within kept bytes front rest b none is from part more e some full =
+      let whole : part ++ (more ++ rest) ≡ kept ++ b ∷ [] = sym (append_assoc part more rest) ∙ ap (λ (l : List ℕ). l ++ rest) (sym e) ∙ sym from ∙ is in
+      elim (front_cases part (more ++ rest) kept b whole) [
+        | inl n ↦ absurd (omega (arith, ap length n, length-append more rest, some))
+        | inr m ↦ absurd (none (record { front = part; rest = m.0; is = m.1; full = full }))
+      ]
+
+  -- nothing is decided
+  pub decides_more : {F : Type 0} (frame : H → F) (bytes : List ℕ) → HasGrown Reads fields most bytes
+      → ((h : H) → ¬ (Reads bytes h [])) → ¬ (IsFullAt most bytes) → Decides Reads fields most frame bytes More
+  decides_more frame bytes g never unfull = (
+    λ h rest x.
+        elim (front_cases x.front rest g.kept g.newest (sym x.is ∙ g.is)) [
+          | inl n ↦
+              let same : bytes ≡ x.front = x.is ∙ ap (λ (l : List ℕ). x.front ++ l) n ∙ append-nil x.front in
+              absurd (never h (subst (λ (l : List ℕ). Reads l h []) (sym same) x.reads))
+          | inr m ↦ absurd (g.none h m.0 (record { front = x.front; is = m.1; reads = x.reads; few = x.few; within = x.within }))
+        ],
+    unfull,
+  )
+
+  -- the bytes are the head
+  pub decides_found : {F : Type 0} (frame : H → F) (extra : ℕ) → Grammar Reads fields extra → (bytes : List ℕ) → HasGrown Reads fields most bytes
+      → (h : H) (rest : List ℕ) (f : F) → Reads bytes h rest → length (fields h) ≤ 64 → f ≡ frame h → Decides Reads fields most frame bytes (Found f)
+  decides_found frame extra grammar bytes g h rest f reads few is =
+      let x = grammar.front bytes h rest reads in
+      let within = grown_within g.kept bytes x.0 rest g.newest g.open_ended g.is x.1 in
+      elim (front_cases x.0 rest g.kept g.newest (sym x.1 ∙ g.is)) [
+        | inl n ↦ (h, record { front = x.0; is = x.1 ∙ ap (λ (l : List ℕ). x.0 ++ l) n; reads = x.2; few = few; within = within }, is)
+        | inr m ↦ absurd (g.none h m.0 (record { front = x.0; is = m.1; reads = x.2; few = few; within = within }))
+      ]
+
+  -- no head begins with the bytes
+  pub decides_malformed : {F : Type 0} (frame : H → F) (extra : ℕ) → Grammar Reads fields extra → (bytes : List ℕ) → HasGrown Reads fields most bytes
+      → ((more : List ℕ) (h : H) (rest : List ℕ) → ¬ (Reads (bytes ++ more) h rest)) → Decides Reads fields most frame bytes Malformed
+  decides_malformed frame extra grammar bytes g never more = (
+    λ h rest x.
+        let reads = grammar.more x.front h [] rest x.reads in
+        absurd (never more h rest (subst (λ (l : List ℕ). Reads l h rest) (sym x.is) reads)),
+    record {
+      front = bytes;
+      rest = more;
+      is = refl;
+      within = grown_within g.kept bytes bytes [] g.newest g.open_ended g.is (sym (append-nil bytes));
+      never = λ after h x. never after h [] x;
+    },
+  )
+
+  -- the bytes are full
+  pub full_now : (bytes : List ℕ) → HasGrown Reads fields most bytes → IsFull most bytes → IsFullAt most bytes
+  full_now bytes g full =
+      elim (front_cases full.front full.rest g.kept g.newest (sym full.is ∙ g.is)) [
+        | inl n ↦ subst (IsFullAt most) (sym (full.is ∙ ap (λ (l : List ℕ). full.front ++ l) n ∙ append-nil full.front)) full.full
+        | inr m ↦ absurd (g.open_ended (record { front = full.front; rest = m.0; is = m.1; full = full.full }))
+      ]
+
+  -- the bytes are full, and hold no head with few fields
+  pub decides_large : {F : Type 0} (frame : H → F) (extra : ℕ) → Grammar Reads fields extra → (bytes : List ℕ) → HasGrown Reads fields most bytes
+      → IsFull most bytes → ((h : H) (rest : List ℕ) → Reads bytes h rest → 64 < length (fields h)) → Decides Reads fields most frame bytes TooLarge
+  decides_large frame extra grammar bytes g full over more = (
+    λ h rest x.
+        elim (two_fronts x.front rest bytes more (sym x.is)) [
+          | inl m ↦
+              let reads = grammar.more x.front h [] m.0 x.reads in
+              let few = x.few in
+              absurd (omega (arith, over h m.0 (subst (λ (l : List ℕ). Reads l h m.0) (sym m.1) reads), few))
+          | inr m ↦ absurd (x.within bytes m.0 m.2 m.1 (full_now bytes g full))
+        ],
+    record { front = full.front; rest = full.rest ++ more; is = ap (λ (l : List ℕ). l ++ more) full.is ∙ append_assoc full.front full.rest more; full = full.full },
+  )
+
+  -- too many lines are full
+  pub full_from_heading : (bytes front rest : List ℕ) → bytes ≡ front ++ rest → Heading most (front ++ print_end lf) → IsFull most bytes
+  full_from_heading bytes front rest is h =
+      let text = print_blank h.blanks ++ print_lines h.lines in
+      let same : front ++ 10 ∷ [] ≡ (text ++ return_of h.last) ++ 10 ∷ [] =
+      h.is ∙ ap (λ (l : List ℕ). text ++ l) (print_end-is h.last) ∙ sym (append_assoc text (return_of h.last) (10 ∷ [])) in
+      let short : front ≡ text ++ return_of h.last = append_cancel_right front (text ++ return_of h.last) (10 ∷ []) same in
+      record {
+        front = text;
+        rest = return_of h.last ++ rest;
+        is = is ∙ ap (λ (l : List ℕ). l ++ rest) short ∙ append_assoc text (return_of h.last) rest;
+        full = full_by most text (record { begun = Nothing; counted = length h.lines; has_empty = false }) (sym (body_scan h.blanks h.lines h.filled)) (full_lines most (length text) (length h.lines) h.enough);
+      }
+
+  -- a head without an empty line is not all there
+  pub unparsed : {F : Type 0} (frame : H → F) → Grammar Reads fields 1 → (bytes : List ℕ) (s : Scan) → HasGrown Reads fields most bytes
+      → s ≡ scan_from no_lines bytes → s.has_empty ≡ false → is_full_by most (length bytes) s ≡ false → Decides Reads fields most frame bytes More
+  unparsed frame grammar bytes s g is none shut =
+      decides_more frame bytes g
+      (λ h reads.
+      let ended = heading_has_empty (length (fields h) + 1) bytes (omega arith) (grammar.heading bytes h reads) in
+      let e : s.has_empty ≡ true = ap (λ (v : Scan). v.has_empty) is ∙ ended in
+      absurd (cc))
+      (not_full_by most bytes s is shut)
+
+  -- a trailer that does not end in a line feed is not all there
+  pub unended : {F : Type 0} (frame : H → F) → Grammar Reads fields 0 → (bytes kept : List ℕ) (newest : ℕ) (s : Scan) → HasGrown Reads fields most bytes
+      → s ≡ scan_from no_lines bytes → bytes ≡ kept ++ newest ∷ [] → (newest ≡ 10 → ⊥) → is_full_by most (length bytes) s ≡ false → Decides Reads fields most frame bytes More
+  unended frame grammar bytes kept newest s g is ends other shut =
+      decides_more frame bytes g
+      (λ h reads.
+      let fed = heading_ends_in (length (fields h) + 0) bytes (grammar.heading bytes h reads) in
+      absurd (other (same_last kept fed.0 newest 10 (sym ends ∙ fed.1))))
+      (not_full_by most bytes s is shut)
+
+  -- what was parsed is not all there
+  pub partial_more : {F : Type 0} (frame : H → F) (bytes : List ℕ) (s : Scan) → HasGrown Reads fields most bytes
+      → s ≡ scan_from no_lines bytes → is_full_by most (length bytes) s ≡ false → ((h : H) (rest : List ℕ) → ¬ (Reads bytes h rest)) → Decides Reads fields most frame bytes More
+  partial_more frame bytes s g is shut never = decides_more frame bytes g (λ h reads. never h [] reads) (not_full_by most bytes s is shut)
+
+  -- what was parsed is full
+  pub partial_full : {F : Type 0} (frame : H → F) (extra : ℕ) → Grammar Reads fields extra → (bytes : List ℕ) (s : Scan) → HasGrown Reads fields most bytes
+      → s ≡ scan_from no_lines bytes → is_full_by most (length bytes) s ≡ true → ((h : H) (rest : List ℕ) → ¬ (Reads bytes h rest)) → Decides Reads fields most frame bytes TooLarge
+  partial_full frame extra grammar bytes s g is full never =
+      decides_large frame extra grammar bytes g (record { front = bytes; rest = []; is = sym (append-nil bytes); full = full_by most bytes s is full }) (λ h rest reads. absurd (never h rest reads))
+
+  -- too many fields are full
+  pub too_many : {F : Type 0} (frame : H → F) (extra : ℕ) → Grammar Reads fields extra → most ≤ 65 + extra → (bytes : List ℕ) → HasGrown Reads fields most bytes
+      → (front rest : List ℕ) → bytes ≡ front ++ rest → (h : H) → Reads (front ++ print_end lf) h [] → 64 < length (fields h)
+      → ((more : List ℕ) (h : H) (rest : List ℕ) → Reads (bytes ++ more) h rest → 64 < length (fields h)) → Decides Reads fields most frame bytes TooLarge
+  too_many frame extra grammar le bytes g front rest is h reads many over =
+      let heading = grammar.heading (front ++ print_end lf) h reads in
+      decides_large frame extra grammar bytes g
+      (full_from_heading bytes front rest is (record {
+        blanks = heading.blanks;
+        lines = heading.lines;
+        last = heading.last;
+        is = heading.is;
+        filled = heading.filled;
+        enough = let e = heading.enough in omega arith;
+      }))
+      (λ k r x. over [] k r (subst (λ (l : List ℕ). Reads l k r) (sym (append-nil bytes)) x))

@@ -1,0 +1,11 @@
+pub mod ChunkFacts
+pub mod Feeding
+pub mod FieldFacts
+pub mod Full
+pub mod Grammars
+pub mod Headed
+pub mod Lines
+pub mod Requesting
+pub mod MachineFacts
+pub mod Scans
+pub mod Stepping

@@ -1,0 +1,11 @@
+pub mod Asking
+pub mod Bodies
+pub mod ChunkLines
+pub mod Fields
+pub mod Heads
+pub mod Machine
+pub mod Outcomes
+pub mod Scanned
+pub mod Responses
+pub mod Stops
+pub mod Verdicts

@@ -1,0 +1,220 @@
+-- Where the machine stands, by how it reads what is still to come.
+use Rattle.std.specs.Prelude.{◌≢◌, ◌≡◌, IsTrue, ◌==◌, if◌then◌else◌, ℕ, ◌+◌, ◌-◌, ◌*◌, ◌<◌, ◌≤◌, Bool, true, false, List, [], ◌∷◌, ◌++◌, length, take, Option, Some, None, Result, Ok, Err}
+use Rattle.httparse.specs.Grammar.{RequestHead, ReadsRequest, ResponseHead, ReadsResponse}
+use Rattle.ojp_http.specs.declared.machine.Place.{Place}
+use Rattle.ojp_http.specs.declared.machine.Place.TheVariants.{Head, ReplyHead, Content, Line, Data, Return, Trailing, Whole}
+use Rattle.ojp_http.specs.declared.machine.Framing.{Framing}
+use Rattle.ojp_http.specs.declared.machine.Stop.{Stop}
+use Rattle.ojp_http.specs.declared.machine.Stop.TheVariants.{Refused, NoMemory}
+use Rattle.ojp_http.specs.declared.refusal.Frame.{Frame}
+use Rattle.ojp_http.specs.declared.refusal.Frame.TheVariants.{Counted, Chunked}
+use Rattle.ojp_http.specs.declared.refusal.Frame.TheVariants as frames
+use Rattle.ojp_http.specs.declared.scan.Scan.{Scan}
+use Rattle.ojp_http.specs.Verdicts.{Verdict, refused, after}
+use Rattle.ojp_http.specs.Heads.{HasNoHead, IsFull}
+use Rattle.ojp_http.specs.Scanned.{no_lines, scan_from}
+use Rattle.ojp_http.specs.Bodies.{Ends, Takes, EndsChunk, Chunks, Trailer, ReadsTrailer, Asks, Replies, Sized, has_no_feed, Frames}
+
+-- the place in a body, or in a chunk, that lacks so many bytes
+abbrev pub content_left : ℕ → Place
+content_left left = if left == 0 then Whole else Content left
+
+abbrev pub chunk_left : ℕ → Place
+chunk_left left = if left == 0 then Return false else Data left
+
+-- what a chunk line's size asks for
+abbrev pub chunk_start : ℕ → Place
+chunk_start size = if size == 0 then Trailing else Data size
+
+-- how the rest reads from a place
+abbrev pub ReadsAt : Place → Option ℕ → List ℕ → List ℕ → Verdict → Type 0
+ReadsAt Head room kept rest v = Asks (kept ++ rest) v
+ReadsAt ReplyHead room kept rest v = Replies (kept ++ rest) v
+ReadsAt (Content left) room kept rest v = Takes left Ends rest v
+ReadsAt Line room kept rest v = Chunks room (kept ++ rest) v
+ReadsAt (Data left) room kept rest v = Takes left (EndsChunk (Chunks room)) rest v
+ReadsAt (Return false) room kept rest v = EndsChunk (Chunks room) rest v
+ReadsAt (Return true) room kept rest v = EndsChunk (Chunks room) (13 ∷ rest) v
+ReadsAt Trailing room kept rest v = Trailer (kept ++ rest) v
+ReadsAt Whole room kept rest v = Ends rest v
+
+abbrev pub Reads : Framing → List ℕ → Verdict → Type 0
+Reads f rest v = ReadsAt f.place f.room f.kept.items rest v
+
+-- the lines of the kept bytes were counted, and the bytes are not full
+pub record IsCounted (most : ℕ) (kept : List ℕ) (scan : Scan) : Type 0 where
+  pub lines : scan ≡ scan_from no_lines kept
+  pub unfull : ¬ (IsFull most kept)
+
+-- nothing was decided yet
+abbrev pub IsOpenAt : Place → List ℕ → Scan → Type 0
+IsOpenAt Head kept scan = HasNoHead ReadsRequest (λ (h : RequestHead). h.fields) 66 kept × IsCounted 66 kept scan
+IsOpenAt ReplyHead kept scan = HasNoHead ReadsResponse (λ (h : ResponseHead). h.fields) 66 kept × IsCounted 66 kept scan
+IsOpenAt (Content left) kept scan = 0 < left
+IsOpenAt Line kept scan = (length kept < 256) × (has_no_feed kept ≡ true)
+IsOpenAt (Data left) kept scan = 0 < left
+IsOpenAt (Return has_return) kept scan = Unit {0}
+IsOpenAt Trailing kept scan = HasNoHead ReadsTrailer (λ t. t.0) 65 kept × IsCounted 65 kept scan
+IsOpenAt Whole kept scan = Unit {0}
+
+abbrev pub IsOpen : Framing → Type 0
+IsOpen f = IsOpenAt f.place f.kept.items f.scan
+
+-- the message is whole
+abbrev pub is_whole_at : Place → Bool
+is_whole_at Head = false
+is_whole_at ReplyHead = false
+is_whole_at (Content left) = false
+is_whole_at Line = false
+is_whole_at (Data left) = false
+is_whole_at (Return has_return) = false
+is_whole_at Trailing = false
+is_whole_at Whole = true
+
+-- one byte, where a step by one was made
+abbrev pub one_of : Result Unit Stop → Result ℕ Stop
+one_of (Ok u) = Ok 1
+one_of (Err stop) = Err stop
+
+-- the most bytes that may still be taken, where the chunks to come sum up to at most the room
+abbrev pub work_at : Place → ℕ → ℕ → ℕ
+work_at Head room kept = (16384 - kept) + 272646403
+work_at ReplyHead room kept = 0
+work_at (Content left) room kept = left
+work_at Line room kept = room * 260 + ((256 - kept) + 16386)
+work_at (Data left) room kept = left + (room * 260 + 16645)
+work_at (Return false) room kept = room * 260 + 16644
+work_at (Return true) room kept = room * 260 + 16643
+work_at Trailing room kept = 16385 - kept
+work_at Whole room kept = 0
+
+-- the most bytes of the body that may still come
+abbrev pub room_at : Place → ℕ → ℕ
+room_at Head room = 1048576
+room_at ReplyHead room = 0
+room_at (Content left) room = left
+room_at Line room = room
+room_at (Data left) room = left + room
+room_at (Return has_return) room = room
+room_at Trailing room = 0
+room_at Whole room = 0
+
+-- so many bytes were taken, and so many of the body gained; nothing is said where there is no limit
+abbrev pub SpendsBy : Option ℕ → Place → ℕ → Option ℕ → Place → ℕ → ℕ → ℕ → Type 0
+SpendsBy None place kept room' place' kept' taken gained = Unit {0}
+SpendsBy (Some room) place kept None place' kept' taken gained = ⊥
+SpendsBy (Some room) place kept (Some room') place' kept' taken gained =
+    (taken + work_at place' room' kept' ≤ work_at place room kept) × (gained + room_at place' room' ≤ room_at place room) × (place' ≢ ReplyHead)
+
+-- replies have no limit
+abbrev pub limit_at : Place → Option ℕ → Option ℕ
+limit_at ReplyHead room = None
+limit_at Head room = room
+limit_at (Content left) room = room
+limit_at Line room = room
+limit_at (Data left) room = room
+limit_at (Return has_return) room = room
+limit_at Trailing room = room
+limit_at Whole room = room
+
+abbrev pub Spends : Framing → Framing → ℕ → ℕ → Type 0
+Spends old new taken gained = SpendsBy (limit_at old.place old.room) old.place (length old.kept.items) new.room new.place (length new.kept.items) taken gained
+
+-- some bytes were taken, and these of the body gained: however the rest reads now, it read so before
+pub record Moves (old new : Framing) (taken gained : List ℕ) : Type 0 where
+  pub reads : (rest : List ℕ) (v : Verdict) → Reads new rest v → Reads old (taken ++ rest) (after gained v)
+  pub ready : IsOpen new
+  pub spends : Spends old new (length taken) (length gained)
+
+-- a step by one byte
+abbrev pub StepsBy : Framing → List ℕ → Result Unit Stop → Framing → Type 0
+StepsBy old taken (Ok _) new = Moves old new taken []
+StepsBy old taken (Err (Refused e)) new = (rest : List ℕ) → Reads old (taken ++ rest) (refused e)
+StepsBy old taken (Err NoMemory) new = Unit {0}
+
+-- the most bytes that may be taken for what a size asks for, and of the body
+abbrev pub SizedSpends : Option ℕ → ℕ → Framing → Type 0
+SizedSpends None size new = Unit {0}
+SizedSpends (Some room) size new = SpendsBy (Some room) Line 255 new.room new.place (length new.kept.items) 1 0
+
+-- however the rest reads now, it is what the size asks for
+pub record Begins (room : Option ℕ) (size : ℕ) (new : Framing) : Type 0 where
+  pub reads : (rest : List ℕ) (v : Verdict) → Reads new rest v → Sized Chunks room size rest v
+  pub ready : IsOpen new
+  pub spends : SizedSpends room size new
+
+-- what a size leads to
+abbrev pub Enters : Option ℕ → ℕ → Result Unit Stop → Framing → Type 0
+Enters room size (Ok _) new = Begins room size new
+Enters room size (Err (Refused e)) new = (rest : List ℕ) → Sized Chunks room size rest (refused e)
+Enters room size (Err NoMemory) new = ⊥
+
+-- a body of a request has at most 1,048,576 bytes
+abbrev pub IsCountedBy : ℕ → Frame → Type 0
+IsCountedBy most (Counted n) = n ≤ most
+IsCountedBy most Chunked = Unit {0}
+IsCountedBy most (frames.Refused e) = Unit {0}
+
+-- a frame that the limit on a body bounds, where there is one
+abbrev pub IsBounded : Option ℕ → Frame → Type 0
+IsBounded None frame = Unit {0}
+IsBounded (Some room) frame = (room ≡ 1048576) × IsCountedBy 1048576 frame
+
+-- a body takes less than its head leaves, and has at most the limit
+abbrev pub FrameSpends : Option ℕ → Framing → Type 0
+FrameSpends None new = Unit {0}
+FrameSpends (Some room) new = SpendsBy (Some room) Head 16384 new.room new.place (length new.kept.items) 1 0
+
+-- however the rest reads now, it is a body in this frame
+pub record FollowsFrame (room : Option ℕ) (frame : Frame) (new : Framing) : Type 0 where
+  pub reads : (rest : List ℕ) (v : Verdict) → Reads new rest v → Frames room frame rest v
+  pub ready : IsOpen new
+  pub spends : FrameSpends room new
+
+-- what a frame leads to
+abbrev pub Follows : Option ℕ → Frame → Result Unit Stop → Framing → Type 0
+Follows room frame (Ok _) new = FollowsFrame room frame new
+Follows room frame (Err (Refused e)) new = (rest : List ℕ) → Frames room frame rest (refused e)
+Follows room frame (Err NoMemory) new = ⊥
+
+-- a step by some bytes of the piece
+pub record Advances (old new : Framing) (piece before got : List ℕ) (n : ℕ) : Type 0 where
+  pub some : 0 < n
+  pub within : n ≤ length piece
+  pub gained : List ℕ
+  pub grows : got ≡ before ++ gained
+  pub moves : Moves old new (take n piece) gained
+
+abbrev pub Steps : Framing → List ℕ → List ℕ → Result ℕ Stop → Framing → List ℕ → Type 0
+Steps old piece before (Ok n) new got = Advances old new piece before got n
+Steps old piece before (Err (Refused e)) new got = (rest : List ℕ) → Reads old (piece ++ rest) (refused e)
+Steps old piece before (Err NoMemory) new got = Unit {0}
+
+-- so many bytes of the piece were taken
+pub record Goes (old new : Framing) (piece before got : List ℕ) (used : ℕ) : Type 0 where
+  pub within : used ≤ length piece
+  pub gained : List ℕ
+  pub grows : got ≡ before ++ gained
+  pub moves : Moves old new (take used piece) gained
+
+-- all of it where the message is not whole
+pub record Took (old new : Framing) (piece before got : List ℕ) (used : ℕ) : Type 0 where
+  pub goes : Goes old new piece before got used
+  pub all : new.place ≢ Whole → used ≡ length piece
+
+abbrev pub Feeds : Framing → List ℕ → List ℕ → Result ℕ Stop → Framing → List ℕ → Type 0
+Feeds old piece before (Ok used) new got = Took old new piece before got used
+Feeds old piece before (Err (Refused e)) new got = (rest : List ℕ) → Reads old (piece ++ rest) (refused e)
+Feeds old piece before (Err NoMemory) new got = Unit {0}
+
+-- the machine before the first byte of a request
+pub record IsNewRequest (f : Framing) : Type 0 where
+  pub reads : (rest : List ℕ) (v : Verdict) → Reads f rest v → Asks rest v
+  pub ready : IsOpen f
+  pub unfinished : f.place ≢ Whole
+
+-- the machine before the first byte of a reply
+pub record IsNewReply (f : Framing) : Type 0 where
+  pub reads : (rest : List ℕ) (v : Verdict) → Reads f rest v → Replies rest v
+  pub ready : IsOpen f
+  pub unfinished : f.place ≢ Whole

@@ -1,0 +1,16 @@
+//! HTTP/1.1 framing (RFC 9112) for one request and one reply a connection, whatever pieces the bytes
+//! come in.
+#![tactic(auto)]
+
+mod answer;
+mod ask;
+mod fields;
+mod head;
+mod machine;
+mod outcome;
+pub mod refusal;
+mod scan;
+
+pub use answer::{write_no_memory, write_response_head};
+pub use ask::{read_request, request};
+pub use refusal::HttpRefusal;

@@ -1,0 +1,384 @@
+//! The machine that frames a message: it keeps the bytes of a head, of a chunk line or of a trailer,
+//! and hands on those of the body at once.
+ghost use Rattle.std.specs.Prelude.{◌≡◌, ◌≢◌, ◌++◌, ◌∷◌, [], ◌<◌, ◌≤◌, ◌+◌, OnOk, IfErr, MatchResult, Some, None, ◌^◌, ◌-◌, min, length, true, false};
+ghost use Rattle.ojp_http.specs.Machine.{IsOpen, IsNewRequest, IsNewReply, StepsBy, Enters, Follows, IsBounded, Steps, Feeds, content_left, chunk_left, chunk_start, is_whole_at, one_of};
+ghost use Rattle.ojp_http.specs.Bodies.{room_after, IsAbove};
+ghost use Rattle.ojp_http.specs.ChunkLines.{EndsLine, IsLineSize};
+ghost use Rattle.ojp_http.specs.Scanned.{no_lines, scan_step};
+ghost use Rattle.ojp_http.specs.declared.machine.Place.TheVariants.{Head, ReplyHead, Content, Line, Data, Return, Trailing, Whole};
+
+use crate::fields::BODY_LIMIT;
+use crate::head::{request_outcome, response_outcome, trailer_outcome};
+use crate::outcome::HeadOutcome;
+use crate::refusal::{Frame, Refusal};
+use crate::scan::Scan;
+use httparse::{Status, parse_chunk_size};
+use std::alloc::Global;
+
+/// The most bytes of a chunk line.
+const LINE_LIMIT: usize = 256;
+
+/// Why the machine stops.
+#[derive(Clone, Copy, Debug, PartialEq, Eq)]
+pub enum Stop {
+    /// The bytes decide a refusal.
+    Refused(Refusal),
+    /// Memory ran out.
+    NoMemory,
+}
+
+/// What comes next.
+#[derive(Clone, Copy, Debug, PartialEq, Eq)]
+pub enum Place {
+    /// The head of a request.
+    Head,
+    /// The head of a reply.
+    ReplyHead,
+    /// So many bytes of a body.
+    Content(u64),
+    /// A chunk line.
+    Line,
+    /// So many bytes of a chunk.
+    Data(u64),
+    /// The line end behind a chunk, of which the carriage return may be there.
+    Return(bool),
+    /// The trailer.
+    Trailing,
+    /// Nothing.
+    Whole,
+}
+
+/// What was kept of a message, and what comes next.
+#[derive(Drop)]
+pub struct Framing {
+    pub place: Place,
+    /// How many bytes the chunks to come may have, where there is a limit.
+    pub room: Option<u64>,
+    pub kept: Vec<u8>,
+    pub scan: Scan,
+}
+
+impl Framing {
+    /// Before the first byte of a request.
+    pub fn request(alloc: Global) -> Framing
+        ensures new { IsNewRequest result }
+        ensures room { result.room ≡ Some 1048576 }
+        ensures place { result.place ≡ Head }
+        ensures kept { result.kept.items ≡ [] }
+    {
+        Framing {
+            place: Place::Head,
+            room: Some(BODY_LIMIT),
+            kept: Vec::new(alloc),
+            scan: Scan::new(),
+        }
+    }
+
+    /// Before the first byte of a reply.
+    pub fn reply(alloc: Global) -> Framing
+        ensures { IsNewReply result }
+    {
+        Framing {
+            place: Place::ReplyHead,
+            room: None,
+            kept: Vec::new(alloc),
+            scan: Scan::new(),
+        }
+    }
+
+    /// Keeps a byte of a head or of a trailer, and counts its line.
+    fn keep(&mut self, byte: u8) -> Result<(), Stop>
+        requires { self.old.scan.counted < 2 ^ 64 - 1 }
+        ensures kept { OnOk result (self.new.kept.items ≡ self.old.kept.items ++ byte ∷ []) }
+        ensures scan { OnOk result (self.new.scan ≡ scan_step self.old.scan byte) }
+        ensures place { self.new.place ≡ self.old.place }
+        ensures room { self.new.room ≡ self.old.room }
+        ensures memory { IfErr result (λ stop. stop ≡ Stop.NoMemory) }
+    {
+        match self.kept.push(byte) {
+            Ok(()) => {
+                self.scan = self.scan.after(byte);
+                Ok(())
+            }
+            Err(_) => Err(Stop::NoMemory),
+        }
+    }
+
+    /// Goes to the body in this frame.
+    fn follow(&mut self, room: Option<u64>, frame: Frame) -> Result<(), Stop>
+        requires { IsBounded room frame }
+        ensures { Follows room frame result self.new }
+    {
+        self.kept.clear();
+        self.room = room;
+        match frame {
+            Frame::Counted(length) => {
+                self.place = content_place(length);
+                Ok(())
+            }
+            Frame::Chunked => {
+                self.place = Place::Line;
+                Ok(())
+            }
+            Frame::Refused(refusal) => Err(Stop::Refused(refusal)),
+        }
+    }
+
+    /// One byte more of a request's head.
+    fn step_head(&mut self, byte: u8) -> Result<(), Stop>
+        requires place { self.old.place ≡ Head }
+        requires ready { IsOpen self.old }
+        ensures { StepsBy self.old (byte ∷ []) result self.new }
+    {
+        let Ok(()) = self.keep(byte) else {
+            return Err(Stop::NoMemory);
+        };
+        match request_outcome(&self.kept, self.scan) {
+            HeadOutcome::Found(frame) => self.follow(Some(BODY_LIMIT), frame),
+            HeadOutcome::Malformed => Err(Stop::Refused(Refusal::Head)),
+            HeadOutcome::TooLarge => Err(Stop::Refused(Refusal::TooLargeHead)),
+            HeadOutcome::More => Ok(()),
+        }
+    }
+
+    /// One byte more of a reply's head.
+    fn step_reply_head(&mut self, byte: u8) -> Result<(), Stop>
+        requires place { self.old.place ≡ ReplyHead }
+        requires ready { IsOpen self.old }
+        ensures { StepsBy self.old (byte ∷ []) result self.new }
+    {
+        let Ok(()) = self.keep(byte) else {
+            return Err(Stop::NoMemory);
+        };
+        match response_outcome(&self.kept, self.scan) {
+            HeadOutcome::Found(frame) => self.follow(None, frame),
+            HeadOutcome::Malformed => Err(Stop::Refused(Refusal::Head)),
+            HeadOutcome::TooLarge => Err(Stop::Refused(Refusal::TooLargeHead)),
+            HeadOutcome::More => Ok(()),
+        }
+    }
+
+    /// One byte more of a trailer.
+    fn step_trailer(&mut self, byte: u8) -> Result<(), Stop>
+        requires place { self.old.place ≡ Trailing }
+        requires ready { IsOpen self.old }
+        ensures { StepsBy self.old (byte ∷ []) result self.new }
+    {
+        let Ok(()) = self.keep(byte) else {
+            return Err(Stop::NoMemory);
+        };
+        match trailer_outcome(&self.kept, byte, self.scan) {
+            HeadOutcome::Found(()) => {
+                self.place = Place::Whole;
+                Ok(())
+            }
+            HeadOutcome::Malformed => Err(Stop::Refused(Refusal::Chunk)),
+            HeadOutcome::TooLarge => Err(Stop::Refused(Refusal::Chunk)),
+            HeadOutcome::More => Ok(()),
+        }
+    }
+
+    /// One byte more of a chunk line.
+    fn step_line(&mut self, byte: u8) -> Result<(), Stop>
+        requires place { self.old.place ≡ Line }
+        requires ready { IsOpen self.old }
+        ensures { StepsBy self.old (byte ∷ []) result self.new }
+    {
+        let Ok(()) = self.kept.push(byte) else {
+            return Err(Stop::NoMemory);
+        };
+        if byte == b'\n' {
+            return match line_size(&self.kept) {
+                Some(size) => self.enter(size),
+                None => Err(Stop::Refused(Refusal::Chunk)),
+            };
+        }
+        if self.kept.len() == LINE_LIMIT {
+            return Err(Stop::Refused(Refusal::Chunk));
+        }
+        Ok(())
+    }
+
+    /// One byte of the line end behind a chunk.
+    fn step_return(&mut self, has_return: bool, byte: u8) -> Result<(), Stop>
+        requires { self.old.place ≡ Return has_return }
+        ensures { StepsBy self.old (byte ∷ []) result self.new }
+    {
+        if has_return {
+            if byte == b'\n' {
+                self.kept.clear();
+                self.place = Place::Line;
+                return Ok(());
+            }
+            return Err(Stop::Refused(Refusal::Chunk));
+        }
+        if byte == b'\r' {
+            self.place = Place::Return(true);
+            return Ok(());
+        }
+        Err(Stop::Refused(Refusal::Chunk))
+    }
+
+    /// Bytes of a body from the front of the piece.
+    fn take_content(&mut self, left: u64, piece: &[u8], body: &mut Vec<u8>) -> Result<usize, Stop>
+        requires place { self.old.place ≡ Content left }
+        requires lacks { 0 < left }
+        requires some { 0 < length piece.now }
+        ensures { Steps self.old piece.now body.old.items result self.new body.new.items }
+    {
+        let count = front_len(left, piece.len());
+        let Ok(()) = body.extend_from_slice(&piece[..count]) else {
+            return Err(Stop::NoMemory);
+        };
+        self.place = content_place(left - count as u64);
+        Ok(count)
+    }
+
+    /// Bytes of a chunk from the front of the piece.
+    fn take_data(&mut self, left: u64, piece: &[u8], body: &mut Vec<u8>) -> Result<usize, Stop>
+        requires place { self.old.place ≡ Data left }
+        requires lacks { 0 < left }
+        requires some { 0 < length piece.now }
+        ensures { Steps self.old piece.now body.old.items result self.new body.new.items }
+    {
+        let count = front_len(left, piece.len());
+        let Ok(()) = body.extend_from_slice(&piece[..count]) else {
+            return Err(Stop::NoMemory);
+        };
+        self.place = chunk_place(left - count as u64);
+        Ok(count)
+    }
+
+    /// Some bytes from the front of the piece.
+    fn step(&mut self, piece: &[u8], body: &mut Vec<u8>) -> Result<usize, Stop>
+        requires ready { IsOpen self.old }
+        requires unfinished { is_whole_at self.old.place ≡ false }
+        requires some { 0 < length piece.now }
+        ensures { Steps self.old piece.now body.old.items result self.new body.new.items }
+    {
+        let byte = piece[0];
+        match self.place {
+            Place::Content(left) => self.take_content(left, piece, body),
+            Place::Data(left) => self.take_data(left, piece, body),
+            Place::Head => one(self.step_head(byte)),
+            Place::ReplyHead => one(self.step_reply_head(byte)),
+            Place::Line => one(self.step_line(byte)),
+            Place::Return(has_return) => one(self.step_return(has_return, byte)),
+            Place::Trailing => one(self.step_trailer(byte)),
+            Place::Whole => unreachable!(),
+        }
+    }
+
+    /// Whether the message is whole.
+    pub fn is_whole(&self) -> bool
+        ensures { result ≡ is_whole_at self.now.place }
+    {
+        matches!(self.place, Place::Whole)
+    }
+
+    /// Reads a piece, up to the end of the message, and says how many of its bytes belong to it. What
+    /// they hold of the body is added to it.
+    pub fn feed(&mut self, piece: &[u8], body: &mut Vec<u8>) -> Result<usize, Stop>
+        requires { IsOpen self.old }
+        ensures { Feeds self.old piece.now body.old.items result self.new body.new.items }
+    {
+        let mut used = 0;
+        'feeding: while used < piece.len() && !self.is_whole() {
+            match self.step(&piece[used..], body) {
+                Ok(count) => used += count,
+                Err(stop) => return Err(stop),
+            }
+        }
+        Ok(used)
+    }
+
+    /// Goes to what a chunk line's size asks for.
+    fn enter(&mut self, size: u64) -> Result<(), Stop>
+        ensures { Enters self.old.room size result self.new }
+    {
+        let Ok(room) = room_left(self.room, size) else {
+            return Err(Stop::Refused(Refusal::TooLong));
+        };
+        self.room = room;
+        self.kept.clear();
+        self.scan = Scan::new();
+        self.place = start_place(size);
+        Ok(())
+    }
+}
+
+/// How many of the bytes that a body lacks a piece of this length holds.
+fn front_len(left: u64, len: usize) -> usize
+    ensures { result ≡ min left len }
+{
+    if left < len as u64 {
+        left as usize
+    } else {
+        len
+    }
+}
+
+/// One byte, where a step by one was made.
+fn one(step: Result<(), Stop>) -> Result<usize, Stop>
+    ensures { result ≡ one_of step }
+{
+    match step {
+        Ok(()) => Ok(1),
+        Err(stop) => Err(stop),
+    }
+}
+
+/// The place in a body that lacks so many bytes.
+fn content_place(left: u64) -> Place
+    ensures { result ≡ content_left left }
+{
+    if left == 0 {
+        Place::Whole
+    } else {
+        Place::Content(left)
+    }
+}
+
+/// The place behind a chunk line of this size.
+fn start_place(size: u64) -> Place
+    ensures { result ≡ chunk_start size }
+{
+    if size == 0 {
+        Place::Trailing
+    } else {
+        Place::Data(size)
+    }
+}
+
+/// The place in a chunk that lacks so many bytes.
+fn chunk_place(left: u64) -> Place
+    ensures { result ≡ chunk_left left }
+{
+    if left == 0 {
+        Place::Return(false)
+    } else {
+        Place::Data(left)
+    }
+}
+
+/// The size that a chunk line writes, where it is one.
+fn line_size(line: &[u8]) -> Option<u64>
+    requires { EndsLine line.now }
+    ensures { IsLineSize line.now result }
+{
+    match parse_chunk_size(line) {
+        Ok(Status::Complete((_, size))) => Some(size),
+        _ => None,
+    }
+}
+
+/// The room behind a chunk of this size, where it has room.
+fn room_left(room: Option<u64>, size: u64) -> Result<Option<u64>, ()>
+    ensures { MatchResult result (λ left. (left ≡ room_after room size) × ¬ (IsAbove room size)) (λ none. IsAbove room size) }
+{
+    match room {
+        None => Ok(None),
+        Some(room) if size <= room => Ok(Some(room - size)),
+        Some(_) => Err(()),
+    }
+}

@@ -1,0 +1,73 @@
+//! Why a request is refused.
+
+use thiserror::Error;
+
+/// Why a request gets no answer of its own, in the order in which the causes are looked for.
+#[derive(Clone, Copy, Debug, PartialEq, Eq, Drop, Error)]
+pub enum HttpRefusal {
+    /// The head is malformed; status 400.
+    #[error("malformed head")]
+    Head,
+    /// There is no head within its limits; status 431.
+    #[error("head too large")]
+    TooLargeHead,
+    /// The method is not `POST`; status 405.
+    #[error("method not allowed")]
+    Method,
+    /// The target is not `/ojp`; status 404.
+    #[error("no such target")]
+    Target,
+    /// There is more than one Host field, or none in version 1.1; status 400.
+    #[error("host missing or repeated")]
+    Host,
+    /// There is neither Content-Length nor Transfer-Encoding; status 411.
+    #[error("length required")]
+    Length,
+    /// The fields that frame the body contradict each other; status 400.
+    #[error("conflicting lengths")]
+    Conflict,
+    /// The transfer coding is not `chunked` alone; status 501.
+    #[error("unknown transfer coding")]
+    Coding,
+    /// The body is longer than 1,048,576 bytes; status 413.
+    #[error("body too long")]
+    TooLong,
+    /// A chunk is malformed; status 400.
+    #[error("malformed chunk")]
+    Chunk,
+    /// The input ends before the request does; status 400.
+    #[error("incomplete request")]
+    Cut,
+    /// A read failed; nothing is written.
+    #[error("read failed")]
+    ReadFault,
+    /// Memory ran out; status 503.
+    #[error("no memory")]
+    NoMemory,
+}
+
+/// The refusals that the bytes alone decide.
+#[derive(Clone, Copy, Debug, PartialEq, Eq)]
+pub enum Refusal {
+    Head,
+    TooLargeHead,
+    Method,
+    Target,
+    Host,
+    Length,
+    Conflict,
+    Coding,
+    TooLong,
+    Chunk,
+}
+
+/// How a body is framed.
+#[derive(Clone, Copy, Debug, PartialEq, Eq)]
+pub enum Frame {
+    /// By its length.
+    Counted(u64),
+    /// In chunks.
+    Chunked,
+    /// Not at all.
+    Refused(Refusal),
+}

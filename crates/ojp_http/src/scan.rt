@@ -1,0 +1,90 @@
+//! Counting the lines of a head byte by byte.
+ghost use Rattle.std.specs.Prelude.{◌≡◌, ◌<◌, ◌-◌, ◌^◌, ◌+◌, ◌*◌, length};
+ghost use Rattle.ojp_http.specs.Scanned.{no_lines, begun_step, scan_end, scan_step, is_full_by};
+
+/// The most bytes of a head or of a trailer.
+pub const HEAD_LIMIT: usize = 16_384;
+
+/// What stands of the line that has begun.
+#[derive(Clone, Copy, Debug, PartialEq, Eq)]
+pub enum Begun {
+    Nothing,
+    Return,
+    Other,
+}
+
+impl Begun {
+    /// The line after one more byte that is no line feed.
+    fn after(self, byte: u8) -> Begun
+        ensures { result ≡ begun_step self byte }
+    {
+        match self {
+            Begun::Nothing if byte == b'\r' => Begun::Return,
+            _ => Begun::Other,
+        }
+    }
+}
+
+/// How many lines were counted, which are those from the first that is not empty on, and whether one
+/// of them is empty.
+#[derive(Clone, Copy, Debug, PartialEq, Eq)]
+pub struct Scan {
+    pub begun: Begun,
+    pub counted: usize,
+    pub has_empty: bool,
+}
+
+impl Scan {
+    /// Before the first byte.
+    pub fn new() -> Scan
+        ensures { result ≡ no_lines }
+    {
+        Scan {
+            begun: Begun::Nothing,
+            counted: 0,
+            has_empty: false,
+        }
+    }
+
+    /// After a line feed.
+    fn after_line(self) -> Scan
+        requires { self.counted < 2 ^ 64 - 1 }
+        ensures { result ≡ scan_end self }
+    {
+        let is_empty = !matches!(self.begun, Begun::Other);
+        if is_empty && self.counted == 0 {
+            return Scan {
+                begun: Begun::Nothing,
+                counted: 0,
+                has_empty: self.has_empty,
+            };
+        }
+        Scan {
+            begun: Begun::Nothing,
+            counted: self.counted + 1,
+            has_empty: self.has_empty || is_empty,
+        }
+    }
+
+    /// After one more byte.
+    pub fn after(self, byte: u8) -> Scan
+        requires { self.counted < 2 ^ 64 - 1 }
+        ensures { result ≡ scan_step self byte }
+    {
+        if byte == b'\n' {
+            return self.after_line();
+        }
+        Scan {
+            begun: self.begun.after(byte),
+            counted: self.counted,
+            has_empty: self.has_empty,
+        }
+    }
+
+    /// Whether `len` bytes with these lines are full, where `most` lines without an empty one are.
+    pub fn is_full(self, most: usize, len: usize) -> bool
+        ensures { result ≡ is_full_by most len self }
+    {
+        len >= HEAD_LIMIT || (self.counted >= most && !self.has_empty)
+    }
+}
