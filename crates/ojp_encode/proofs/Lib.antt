@@ -1,0 +1,5 @@
+pub mod Filling
+pub mod Sequences
+pub mod Behind
+pub mod Short
+pub mod Sizes

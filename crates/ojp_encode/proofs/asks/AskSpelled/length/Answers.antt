@@ -1,0 +1,22 @@
+use Rattle.std.proofs.Common.{length, sym, ap, ◌∙◌}
+use Rattle.ojp_grammar.specs.Grammar.{ASK}
+use Rattle.ojp_grammar.specs.Documents.{ask_said}
+use Rattle.ojp_values.specs.declared.asks.Ask.{Ask}
+use Rattle.ojp_encode.specs.Writing.{spelling}
+use Rattle.ojp_encode.proofs.asks.AskSpelled.length.Goals as goal
+
+pub returns-in-Trip-clause-value : goal.returns-in-Trip-clause-value
+unfolding spelling
+returns-in-Trip-clause-value c = c.length.ensures.value ∙ ap (λ (a : Ask). length (spelling ASK (ask_said a))) (sym c.in-Trip.is)
+
+pub returns-in-Multi-clause-value : goal.returns-in-Multi-clause-value
+unfolding spelling
+returns-in-Multi-clause-value c = c.length-in-Multi.ensures.value ∙ ap (λ (a : Ask). length (spelling ASK (ask_said a))) (sym c.in-Multi.is)
+
+pub returns-in-Events-clause-value : goal.returns-in-Events-clause-value
+unfolding spelling
+returns-in-Events-clause-value c = c.length-in-Events.ensures.value ∙ ap (λ (a : Ask). length (spelling ASK (ask_said a))) (sym c.in-Events.is)
+
+pub returns-in-Points-clause-value : goal.returns-in-Points-clause-value
+unfolding spelling
+returns-in-Points-clause-value c = c.length-in-Points.ensures.value ∙ ap (λ (a : Ask). length (spelling ASK (ask_said a))) (sym c.in-Points.is)

@@ -1,0 +1,64 @@
+//! Markup and fields, and what stands between them.
+
+ghost use Rattle.std.specs.Prelude.{◌++◌};
+ghost use Rattle.std.specs.List.{flat_map};
+ghost use Rattle.ojp_encode.specs.Writing.{Writes};
+
+use crate::spelled::Spelled;
+use ojp_outside::{Sink, WriteFault, put_all, put_parts};
+
+/// Writes the parts one after another.
+pub fn put<S: Sink>(sink: &mut S, parts: &[&[u8]]) -> Result<(), WriteFault>
+    ensures { Writes (S.written sink.old) (S.written sink.new) (S.faults sink.old) (S.faults sink.new)
+        (flat_map (λ part. part.now) parts.now) result }
+{
+    put_parts(sink, parts)
+}
+
+/// Writes what stands before, the inner part, and what stands behind.
+pub fn put_around<S: Sink, T: Spelled>(
+    sink: &mut S,
+    before: &[&[u8]],
+    inner: &T,
+    behind: &[u8],
+) -> Result<(), WriteFault>
+    ensures { Writes (S.written sink.old) (S.written sink.new) (S.faults sink.old) (S.faults sink.new)
+        (flat_map (λ part. part.now) before.now ++ (T.bytes inner.now ++ behind.now)) result }
+{
+    put(sink, before)?;
+    inner.put(sink)?;
+    put_end(sink, behind)
+}
+
+/// Writes what stands before, the items, and what stands behind.
+pub fn put_list<S: Sink, T: Spelled>(
+    sink: &mut S,
+    before: &[&[u8]],
+    items: &[T],
+    behind: &[u8],
+) -> Result<(), WriteFault>
+    ensures { Writes (S.written sink.old) (S.written sink.new) (S.faults sink.old) (S.faults sink.new)
+        (flat_map (λ part. part.now) before.now ++ (flat_map T.bytes items.now ++ behind.now)) result }
+{
+    put(sink, before)?;
+    put_each(sink, items)?;
+    put_end(sink, behind)
+}
+
+/// Writes the items one after another.
+fn put_each<S: Sink, T: Spelled>(sink: &mut S, items: &[T]) -> Result<(), WriteFault>
+    ensures { Writes (S.written sink.old) (S.written sink.new) (S.faults sink.old) (S.faults sink.new)
+        (flat_map T.bytes items.now) result }
+{
+    for item in items {
+        item.put(sink)?;
+    }
+    Ok(())
+}
+
+fn put_end<S: Sink>(sink: &mut S, text: &[u8]) -> Result<(), WriteFault>
+    ensures { Writes (S.written sink.old) (S.written sink.new) (S.faults sink.old) (S.faults sink.new)
+        text.now result }
+{
+    put_all(sink, text)
+}

@@ -1,0 +1,29 @@
+//! What documents are made of.
+
+ghost use Rattle.std.specs.Prelude.{◌≡◌, ◌≤◌, ℕ, List, length};
+ghost use Rattle.ojp_encode.specs.Writing.{Writes};
+
+use ojp_outside::{Sink, WriteFault};
+
+/// A part of a document, which is spelled in one way.
+pub trait Spelled {
+    /// The bytes that spell it.
+    ghost bytes: { Self → List ℕ };
+
+    /// Its numbers and the lengths of its lists are within their limits.
+    ghost is_well: { Self → Type 0 };
+
+    /// No more bytes spell it.
+    ghost most: { ℕ };
+
+    /// Writes it.
+    fn put<S: Sink>(&self, sink: &mut S) -> Result<(), WriteFault>
+        ensures { Writes (S.written sink.old) (S.written sink.new) (S.faults sink.old) (S.faults sink.new)
+            (bytes self.now) result };
+
+    /// The number of bytes that spell it.
+    fn length(&self) -> u64
+        requires { is_well self.now }
+        ensures value { result ≡ length (bytes self.now) }
+        ensures bound { result ≤ most };
+}
