@@ -10,7 +10,7 @@ use Rattle.std.proofs.lemmas.Slice.Eq.{bytes_eq-Decides}
 use Rattle.std.proofs.lemmas.List.Elements.{All-cons, All-append}
 use Rattle.std.proofs.lemmas.List.Sums.{AllPass-from_list_all}
 use Rattle.std.proofs.lemmas.Fmt.{decimal_is_IsNumeral, decimal_nonempty, decimal_injective, length-decimal-le}
-use Rattle.ojp_values.specs.Texts.{is_code, is_label, is_stop_ref, is_name, is_code_byte, is_local_byte, is_colon, is_x, is_tail, code_part, escaped, escaped_byte}
+use Rattle.ojp_values.specs.Texts.{is_code, is_label, is_stop_ref, is_name, is_code_byte, is_local_byte, is_colon, is_x, is_tail, is_between, code_part, escaped, escaped_byte}
 use Rattle.ojp_values.specs.declared.dates.CalendarDate.{CalendarDate}
 use Rattle.ojp_values.specs.FieldTexts.{IsFieldText}
 use Rattle.ojp_values.specs.Numbers.{duration_text}
@@ -232,8 +232,9 @@ stop_ref_is_text text h =
     tail_is_text : (tail : List ℕ) → is_tail tail ≡ true → IsBare tail × (length tail ≤ 33)
     tail_is_text [] h = (bare_nil, lit≤ tt)
     tail_is_text (b ∷ local) h =
-        let front = and_true_left _ _ h in
-        let colon : b ≡ 58 = eqb-true b 58 (and_true_right _ _ front) in (
-          bare_byte b local (λ e. omega (arith, e, colon)) (bare_by is_local_byte local refl (and_true_right _ _ h)),
+        let front : (is_between 2 33 (length (b ∷ local)) && b == 58) ≡ true = and_true_left _ _ h in
+        let colon : b ≡ 58 = eqb-true b 58 (and_true_right _ _ front) in
+        let other : IsOther b = λ e. omega (arith, e, colon) in (
+          bare_byte b local other (bare_by is_local_byte local refl (and_true_right _ _ h)),
           leb-true _ 33 (and_true_right _ _ (and_true_left _ _ front)),
         )

@@ -6,3 +6,4 @@ pub mod Escapes
 pub mod Calendar
 pub mod FieldTexts
 pub mod StopParts
+pub mod CharacterBytes

@@ -11,6 +11,19 @@ use Rattle.ojp_values.proofs.Escapes.{and_true_left, and_true_right}
 between : (low high n : ℕ) → low ≤ n → n ≤ high → is_between low high n ≡ true
 between low high n from to = and_from _ _ (le-leb low n from) (le-leb n high to)
 
+-- a colon makes a label one byte longer
+count_less : (b : ℕ) (local : List ℕ) → is_between 2 33 (length (b ∷ local)) ≡ true → is_between 1 32 (length local) ≡ true
+count_less b local h =
+    let low : 2 ≤ length (b ∷ local) = leb-true 2 (length (b ∷ local)) (and_true_left _ _ h) in
+    let high : length (b ∷ local) ≤ 33 = leb-true (length (b ∷ local)) 33 (and_true_right _ _ h) in
+    between 1 32 (length local) (omega (arith, low)) (omega (arith, high))
+
+count_more : (b : ℕ) (local : List ℕ) → is_between 1 32 (length local) ≡ true → is_between 2 33 (length (b ∷ local)) ≡ true
+count_more b local h =
+    let low : 1 ≤ length local = leb-true 1 (length local) (and_true_left _ _ h) in
+    let high : length local ≤ 32 = leb-true (length local) 32 (and_true_right _ _ h) in
+    between 2 33 (length (b ∷ local)) (omega (arith, low)) (omega (arith, high))
+
 -- ---- from the text to its parts
 
 by_x : (front : List ℕ) (b : Bool) → b ≡ is_x front → (b || is_code front) ≡ true → IsTrue (is_code front) ⊎ (front ≡ 120 ∷ [])
@@ -22,14 +35,8 @@ tail_parts : (tail : List ℕ) → is_tail tail ≡ true → (local : List ℕ) 
 tail_parts [] h = absurd (true≢false (sym h))
 tail_parts (b ∷ local) h =
     let head = and_true_left _ _ h in
-    let count = and_true_left _ _ head in
-    let low : 2 ≤ length (b ∷ local) = leb-true 2 (length (b ∷ local)) (and_true_left _ _ count) in
-    let high : length (b ∷ local) ≤ 33 = leb-true (length (b ∷ local)) 33 (and_true_right _ _ count) in
-    let colon : b ≡ 58 = eqb-true b 58 (and_true_right _ _ head) in (
-      local,
-      ap (λ x. x ∷ local) colon,
-      and_from _ _ (between 1 32 (length local) (omega (arith, low)) (omega (arith, high))) (and_true_right _ _ h),
-    )
+    let colon : b ≡ 58 = eqb-true b 58 (and_true_right _ _ head) in
+    (local, ap (λ x. x ∷ local) colon, and_from _ _ (count_less b local (and_true_left _ _ head)) (and_true_right _ _ h))
 
 to_parts : (text : List ℕ) → IsTrue (is_stop_ref text) → HasParts text
 to_parts text h =
@@ -71,10 +78,7 @@ front_test front (inr x) = or_left (is_x front) (is_code front) ((bytes_eq-Decid
 
 tail_test : (local : List ℕ) → IsTrue (is_label local) → is_tail (58 ∷ local) ≡ true
 tail_test local h =
-    let count = and_true_left _ _ h in
-    let low : 1 ≤ length local = leb-true 1 (length local) (and_true_left _ _ count) in
-    let high : length local ≤ 32 = leb-true (length local) 32 (and_true_right _ _ count) in
-    and_from _ _ (and_from _ _ (between 2 33 (length (58 ∷ local)) (omega (arith, low)) (omega (arith, high))) refl) (and_true_right _ _ h)
+    and_from _ _ (and_from _ _ (count_more 58 local (and_true_left _ _ h)) refl) (and_true_right _ _ h)
 
 of_parts : (front local : List ℕ) → IsTrue (is_code front) ⊎ (front ≡ 120 ∷ []) → IsTrue (is_label local)
     → IsTrue (is_stop_ref (front ++ 58 ∷ local))

@@ -1,3 +1,4 @@
+pub mod Characters
 pub mod Dates
 pub mod Escapes
 pub mod FieldTexts

@@ -6,6 +6,7 @@ ghost use Rattle.ojp_values.specs.Numbers.{duration_text};
 ghost use Rattle.ojp_values.specs.Dates.{day_text, moment_text};
 ghost use Rattle.ojp_values.specs.FieldTexts.{IsFieldText};
 ghost use Rattle.ojp_values.specs.Stops.{StopsHaveParts};
+ghost use Rattle.ojp_values.specs.Characters.{ControlsAreBytes, NoncharactersAreBytes};
 
 /// The text of a value of each kind is 1 to 512 bytes, and none of them is `<`.
 pub fn texts_are_bare()
@@ -31,4 +32,10 @@ pub fn texts_spell_one_value()
 /// A reference to a stop is a code or `x`, a colon and a label, and each such text is one.
 pub fn stops_have_parts()
     ensures { StopsHaveParts }
+{}
+
+/// The tests on the bytes of a name say what they say of its characters, which are Unicode's.
+pub fn names_have_characters()
+    ensures controls { ControlsAreBytes }
+    ensures noncharacters { NoncharactersAreBytes }
 {}
