@@ -10,3 +10,5 @@ pub mod CallRowFacts
 pub mod PointFacts
 pub mod LineFacts
 pub mod PassFacts
+pub mod AmongFacts
+pub mod WellFacts

@@ -2,7 +2,6 @@
 use Rattle.std.specs.Prelude.{◌≡◌, ◌<◌, ℕ, ◌+◌, Bool, pos, List, [], ◌∷◌, Option, None, find, position, map, length, if◌then◌else◌, insert, ◌++◌, unwrap_or, option_map}
 use Rattle.std.specs.List.{list_any, sum_by}
 use Rattle.ojp_zones.specs.declared.zone.Zone.{Zone}
-use Rattle.ojp_zones.specs.Noons.{AreNear}
 use Rattle.ojp_values.specs.Texts.{Text, same, text_lt}
 use Rattle.ojp_values.specs.declared.trips.Point.{Point}
 use Rattle.ojp_values.specs.declared.trips.Neighbour.{Neighbour}
@@ -83,10 +82,3 @@ abbrev pub with_call : List Journey → Call → List Journey
 with_call [] call = []
 with_call (journey ∷ []) call = record journey { calls = journey.calls ++ call ∷ [] } ∷ []
 with_call (journey ∷ next ∷ more) call = journey ∷ with_call (next ∷ more) call
-
--- what is kept of a timetable beside what its lines say: the region is named, there is a noon for each operating
--- day, and none is far from that of UTC
-pub record IsWhole (contents : Contents) (noons : List ℕ) : Type 0 where
-  pub named : 0 < length contents.region
-  pub days : length noons ≡ 84001
-  pub near : AreNear noons

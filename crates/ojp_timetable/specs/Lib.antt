@@ -8,6 +8,7 @@ pub mod Checks
 pub mod TableText
 pub mod Refusals
 pub mod Views
+pub mod WellContents
 pub mod Runs
 pub mod Journeys
 pub mod Rows

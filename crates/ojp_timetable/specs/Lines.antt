@@ -89,10 +89,3 @@ IsWellLine above (lines.Call call) = (3 ≤ above) × IsOffset call.arrives × I
 abbrev pub HasRegionFor : Contents → Line → Type 0
 HasRegionFor contents (lines.Place stop change name) = 0 < length contents.region
 HasRegionFor contents _ = Unit {0}
-
--- what is kept of the lines above is in range: there is a region behind the second, a zone whose offsets are in
--- range, and no more bytes than a file may have
-pub record IsWellAbove (above : Above) : Type 0 where
-  pub named : 2 ≤ above.lines → 0 < length above.contents.region
-  pub zone : IsZone above.contents.zone
-  pub bytes : above.bytes ≤ 16777216

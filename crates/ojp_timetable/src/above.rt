@@ -24,7 +24,8 @@ pub struct Above {
 }
 
 impl Model for Above {
-    ghost use Rattle.ojp_timetable.specs.Lines.{Above as AboveValue, IsWellAbove};
+    ghost use Rattle.ojp_timetable.specs.Lines.{Above as AboveValue};
+    ghost use Rattle.ojp_timetable.specs.WellContents.{IsWellAbove};
 
     ghost Value = { AboveValue };
 
@@ -34,8 +35,9 @@ impl Model for Above {
 }
 
 impl Above {
-    ghost use Rattle.ojp_timetable.specs.Lines.{IsWellAbove, IsWellLine, after_line, no_lines};
-    ghost use Rattle.ojp_timetable.specs.Checks.{is_cut, is_doubled, is_long, read_line};
+    ghost use Rattle.ojp_timetable.specs.Lines.{IsWellLine, after_line, no_lines};
+    ghost use Rattle.ojp_timetable.specs.WellContents.{IsCall, IsOpen, IsWellAbove, IsWellContents, Passes};
+    ghost use Rattle.ojp_timetable.specs.Checks.{is_cut, is_long, read_line};
     ghost use Rattle.ojp_timetable.specs.TableText.{reason_of, with_line};
     ghost use Rattle.ojp_timetable.specs.Refusals.{IsLineRefusal};
 
@@ -79,7 +81,8 @@ impl Above {
     fn read_line(&self, text: &[u8]) -> Result<Line, TableReason>
         ensures value { result ≡ read_line self.now text.now }
         ensures well { IfOk result (IsWellLine self.now.lines) }
-        ensures new { IfOk result (λ line. is_doubled self.now.contents line ≡ false) }
+        ensures opened { IfOk result (λ line. IsCall line → IsOpen self.now.left) }
+        ensures passes { IfOk result (Passes self.now.contents self.now.left) }
         ensures short { OnOk result (self.now.bytes + length text.now ≤ BYTES) }
     {
         let line = read_said(self.lines, self.draft.region_text(), &self.left, body(text))?;
@@ -89,7 +92,7 @@ impl Above {
         }
     }
 
-    /// Takes the line.
+    /// Takes the line. Where there is no memory for it, all lines are forgotten.
     pub fn take(&mut self, alloc: Global, text: &[u8]) -> Result<(), LineRefused>
         requires { self.old.lines + 1 < 2 ^ 64 }
         ensures taken { OnOk result (self.new ≡ with_line self.old text.now) }
@@ -101,6 +104,7 @@ impl Above {
             Err(reason) => return Err(LineRefused::Reason(reason)),
         };
         let Ok(()) = self.draft.add(alloc, &line) else {
+            *self = Above::new(alloc);
             return Err(LineRefused::NoMemory);
         };
         self.lines += 1;
@@ -114,6 +118,7 @@ impl Above {
         ensures value { result ≡ self.contents }
         ensures named { 2 ≤ self.lines → 0 < length self.contents.region }
         ensures zone { IsZone self.contents.zone }
+        ensures well { IsWellContents self.contents }
     {
         let Above { draft, .. } = self;
         draft

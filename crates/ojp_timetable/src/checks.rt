@@ -3,6 +3,7 @@ ghost use Rattle.std.specs.Prelude.{◌≡◌, false, None};
 ghost use Rattle.std.specs.List.{list_any};
 ghost use Rattle.ojp_values.specs.Texts.{same};
 ghost use Rattle.ojp_values.specs.declared.trips.Neighbour.{Neighbour as NeighbourValue};
+ghost use Rattle.ojp_timetable.specs.WellContents.{Passes};
 ghost use Rattle.ojp_timetable.specs.Checks.{checks, departed, falls_from, first_failing, has_neighbour, is_before, is_doubled, is_falling, is_foreign, is_full, is_stop_elsewhere, lacks_service, lacks_stop, later_of};
 
 use crate::calls::Call;
@@ -175,7 +176,7 @@ fn is_full(draft: &Draft, line: &Line) -> bool
 /// file may have.
 pub fn first_failing(draft: &Draft, left: &Open, is_long: bool, line: &Line) -> Option<TableReason>
     ensures value { result ≡ first_failing (checks draft.now left.now is_long line.now) }
-    ensures new { result ≡ None → is_doubled draft.now line.now ≡ false }
+    ensures passes { result ≡ None → Passes draft.now left.now line.now }
     ensures short { result ≡ None → is_long ≡ false }
 {
     if is_foreign(draft, line) {

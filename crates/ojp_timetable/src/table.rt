@@ -26,7 +26,8 @@ impl Model for Timetable {
 
     ghost Value = { TimetableValue };
 
-    ghost use Rattle.ojp_timetable.specs.Contents.{timetable_of, IsWhole};
+    ghost use Rattle.ojp_timetable.specs.Contents.{timetable_of};
+    ghost use Rattle.ojp_timetable.specs.WellContents.{IsWhole};
 
     ghost view = { λ t. timetable_of t.draft t.noons.items };
 
@@ -35,7 +36,7 @@ impl Model for Timetable {
 
 impl Timetable {
     ghost use Rattle.ojp_timetable.specs.Tables.{Place as PlaceValue, change_of, has, name_of};
-    ghost use Rattle.ojp_timetable.specs.Runs.{RunsOn, moment};
+    ghost use Rattle.ojp_timetable.specs.Runs.{IsWell, RunsOn, moment};
     ghost use Rattle.ojp_timetable.specs.Views.{calls_at, dates_of, place_view, view_of};
     ghost use Rattle.ojp_timetable.specs.TableText.{IsText};
     ghost use Rattle.ojp_timetable.specs.Refusals.{IsRefusal};
@@ -53,6 +54,13 @@ impl Timetable {
             return Err(TableRefused::NoMemory);
         };
         Ok(Timetable { draft, noons })
+    }
+
+    /// The timetable is well: its times do not fall, and its stops, services and noons are in range.
+    pub fn is_well(&self)
+        ensures { IsWell self.now }
+    {
+        let _ = &self.noons;
     }
 
     /// The region's code.

@@ -1,0 +1,82 @@
+-- What the contents of lines that pass keep.
+use Rattle.std.specs.Prelude.{◌≡◌, ◌≤◌, ◌<◌, ℕ, true, false, List, [], ◌∷◌, ◌++◌, length, Option, Some, None}
+use Rattle.ojp_values.specs.Lists.{Among}
+use Rattle.ojp_values.specs.Texts.{is_exchange}
+use Rattle.ojp_values.specs.declared.trips.Point.{Point}
+use Rattle.ojp_timetable.specs.Tables.{Call, Journey, Place}
+use Rattle.ojp_timetable.specs.Runs.{IsWellCall, NoneFalls, latest}
+use Rattle.ojp_timetable.specs.Contents.{Contents, timetable_of}
+use Rattle.ojp_zones.specs.Noons.{AreNear, IsZone}
+use Rattle.ojp_timetable.specs.Lines.{Above}
+use Rattle.ojp_timetable.specs.Checks.{departed, is_doubled, is_falling, is_foreign, lacks_service, lacks_stop}
+use Rattle.ojp_timetable.specs.declared.lines.Line.{Line}
+use Rattle.ojp_timetable.specs.declared.lines.Line.TheVariants.{Call as CallLine}
+use Rattle.ojp_timetable.specs.declared.lines.Open.{Open}
+use Rattle.ojp_timetable.specs.declared.lines.Open.TheVariants.{Nothing, Begun, Since}
+
+-- the journeys are of services that stand above and their times do not fall; their calls are at places that stand
+-- above; no two places have one reference, and each exchange point stands among the points
+pub record IsWellContents (contents : Contents) : Type 0 where
+  pub services : (journey : Journey) → Among journey contents.journeys → journey.service < length contents.services
+  pub times : (journey : Journey) → Among journey contents.journeys → NoneFalls 0 journey.calls
+  pub calls : (journey : Journey) → Among journey contents.journeys → (call : Call) → Among call journey.calls → IsWellCall (timetable_of contents []) call
+  pub changes : (place : Place) → Among place contents.places → (1 ≤ place.change) × (place.change ≤ 7200)
+  pub one_each : (x y : Place) → Among x contents.places → Among y contents.places → x.stop ≡ y.stop → x ≡ y
+  pub shared : (place : Place) → Among place contents.places → is_exchange place.stop ≡ true → (point : Point) × Among point contents.points × (point.stop ≡ place.stop)
+
+-- the last time of the calls, from t on
+abbrev pub last_time : ℕ → List Call → ℕ
+last_time t [] = t
+last_time t (call ∷ calls) = last_time (latest (latest t call.arrives) call.departs) calls
+
+-- the last journey has come to the time
+abbrev pub HasCome : List Journey → ℕ → Type 0
+HasCome [] time = Unit {0}
+HasCome (journey ∷ []) time = last_time 0 journey.calls ≡ time
+HasCome (journey ∷ next ∷ more) time = HasCome (next ∷ more) time
+
+-- an open journey has come to what stands open
+abbrev pub EndsOpen : Open → List Journey → Type 0
+EndsOpen Nothing journeys = Unit {0}
+EndsOpen Begun journeys = HasCome journeys 0
+EndsOpen (Since departs) journeys = HasCome journeys departs
+
+-- a journey stands open
+abbrev pub IsOpen : Open → Type 0
+IsOpen Nothing = ⊥
+IsOpen Begun = Unit {0}
+IsOpen (Since departs) = Unit {0}
+
+abbrev pub IsCall : Line → Type 0
+IsCall (CallLine call) = Unit {0}
+IsCall _ = ⊥
+
+-- the line fails no check that speaks of the lines above
+pub record Passes (contents : Contents) (left : Open) (line : Line) : Type 0 where
+  pub own : is_foreign contents line ≡ false
+  pub new : is_doubled contents line ≡ false
+  pub stop : lacks_stop contents line ≡ false
+  pub service : lacks_service contents line ≡ false
+  pub times : is_falling left line ≡ false
+
+-- what lines that pass keep, with what they leave open; before the region is named there is no journey
+pub record IsWellSoFar (above : Above) : Type 0 where
+  pub well : IsWellContents above.contents
+  pub ends : EndsOpen above.left above.contents.journeys
+  pub fresh : above.lines < 2 → above.contents.journeys ≡ []
+
+-- what is kept of the lines above is in range: there is a region behind the second, a zone whose offsets are in
+-- range, and no more bytes than a file may have; the contents are well
+pub record IsWellAbove (above : Above) : Type 0 where
+  pub named : 2 ≤ above.lines → 0 < length above.contents.region
+  pub zone : IsZone above.contents.zone
+  pub bytes : above.bytes ≤ 16777216
+  pub so_far : IsWellSoFar above
+
+-- what is kept of a timetable beside what its lines say: the region is named, there is a noon for each operating
+-- day, none is far from that of UTC, and the contents are well
+pub record IsWhole (contents : Contents) (noons : List ℕ) : Type 0 where
+  pub named : 0 < length contents.region
+  pub days : length noons ≡ 84001
+  pub near : AreNear noons
+  pub well : IsWellContents contents
