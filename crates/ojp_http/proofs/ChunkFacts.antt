@@ -12,7 +12,7 @@ and_false true = refl
 and_false false = refl
 
 -- a chunk line has a line feed
-line_feeds : (l : ChunkLine) → has_no_feed (print_chunk_line l) ≡ false
+pub line_feeds : (l : ChunkLine) → has_no_feed (print_chunk_line l) ≡ false
 unfolding print_chunk_line
 line_feeds l =
     list_all-append (λ n. not (n == 10)) (l.digits ++ l.pad ++ print_extension l.extension) (13 ∷ 10 ∷ [])

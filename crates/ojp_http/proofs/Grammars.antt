@@ -27,12 +27,12 @@ no_feed_byte p b ten h false e = refl
 both : {a b : Bool} → a ≡ true → b ≡ true → (a && b) ≡ true
 both e f = λ i. (e i) && (f i)
 
-no_feed : (p : ℕ → Bool) (bytes : List ℕ) → p 10 ≡ false → AllPass p bytes → has_no_feed bytes ≡ true
+pub no_feed : (p : ℕ → Bool) (bytes : List ℕ) → p 10 ≡ false → AllPass p bytes → has_no_feed bytes ≡ true
 no_feed p [] ten h = refl
 no_feed p (b ∷ bytes) ten h =
     both (no_feed_byte p b ten (h 0 b (omega arith)) (b == 10) refl) (no_feed p bytes ten (λ k d lt. h (suc k) d (omega arith)))
 
-no_feed_append : (a b : List ℕ) → has_no_feed a ≡ true → has_no_feed b ≡ true → has_no_feed (a ++ b) ≡ true
+pub no_feed_append : (a b : List ℕ) → has_no_feed a ≡ true → has_no_feed b ≡ true → has_no_feed (a ++ b) ≡ true
 no_feed_append a b x y = list_all-append (λ n. not (n == 10)) a b ∙ both x y
 
 token_ten : is_token_byte 10 ≡ false

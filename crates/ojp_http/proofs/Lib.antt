@@ -5,7 +5,9 @@ pub mod Full
 pub mod Grammars
 pub mod Headed
 pub mod Lines
+pub mod ReplyFacts
 pub mod Requesting
 pub mod MachineFacts
 pub mod Scans
 pub mod Stepping
+pub mod Unique

@@ -6,6 +6,8 @@ pub mod Heads
 pub mod Machine
 pub mod Outcomes
 pub mod Scanned
+pub mod Replying
 pub mod Responses
+pub mod Serving
 pub mod Stops
 pub mod Verdicts

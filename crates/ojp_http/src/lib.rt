@@ -4,13 +4,19 @@
 
 mod answer;
 mod ask;
+pub mod fed;
 mod fields;
 mod head;
 mod machine;
 mod outcome;
 pub mod refusal;
+mod reply;
 mod scan;
+mod served;
 
 pub use answer::{write_no_memory, write_response_head};
 pub use ask::{read_request, request};
+pub use fed::{ReplyFed, ReplyRefused};
 pub use refusal::HttpRefusal;
+pub use reply::Reply;
+pub use served::Served;

@@ -46,6 +46,53 @@ pub enum HttpRefusal {
     NoMemory,
 }
 
+impl HttpRefusal {
+    ghost use Rattle.std.specs.Prelude.{◌≡◌};
+    ghost use Rattle.ojp_http.specs.Serving.{refusal_status, refusal_name};
+
+    /// The status that answers it; 0 for a failed read, which is not answered.
+    pub fn status(self) -> u16
+        ensures { result ≡ refusal_status self }
+    {
+        match self {
+            HttpRefusal::Head => 400,
+            HttpRefusal::TooLargeHead => 431,
+            HttpRefusal::Method => 405,
+            HttpRefusal::Target => 404,
+            HttpRefusal::Host => 400,
+            HttpRefusal::Length => 411,
+            HttpRefusal::Conflict => 400,
+            HttpRefusal::Coding => 501,
+            HttpRefusal::TooLong => 413,
+            HttpRefusal::Chunk => 400,
+            HttpRefusal::Cut => 400,
+            HttpRefusal::ReadFault => 0,
+            HttpRefusal::NoMemory => 503,
+        }
+    }
+
+    /// Its name, which is the body of the response.
+    pub fn name(self) -> &'static str
+        ensures { result.now ≡ refusal_name self }
+    {
+        match self {
+            HttpRefusal::Head => "Head",
+            HttpRefusal::TooLargeHead => "TooLargeHead",
+            HttpRefusal::Method => "Method",
+            HttpRefusal::Target => "Target",
+            HttpRefusal::Host => "Host",
+            HttpRefusal::Length => "Length",
+            HttpRefusal::Conflict => "Conflict",
+            HttpRefusal::Coding => "Coding",
+            HttpRefusal::TooLong => "TooLong",
+            HttpRefusal::Chunk => "Chunk",
+            HttpRefusal::Cut => "Cut",
+            HttpRefusal::ReadFault => "ReadFault",
+            HttpRefusal::NoMemory => "NoMemory",
+        }
+    }
+}
+
 /// The refusals that the bytes alone decide.
 #[derive(Clone, Copy, Debug, PartialEq, Eq)]
 pub enum Refusal {

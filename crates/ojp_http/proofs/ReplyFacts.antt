@@ -1,0 +1,120 @@
+-- A reply in pieces.
+use Rattle.std.proofs.Common.{◌≡◌, ℕ, Bool, true, false, List, [], ◌++◌, length, take, refl, sym, ap, ◌∙◌, append_assoc, append-nil, subst, Result, Ok, Err, ◌≤◌}
+use Rattle.std.specs.Prelude.{◌≢◌}
+use Rattle.ojp_http.specs.declared.fed.ReplyFed.{ReplyFed}
+use Rattle.ojp_http.specs.declared.fed.ReplyFed.TheVariants as fed
+use Rattle.ojp_http.specs.declared.fed.ReplyRefused.{ReplyRefused}
+use Rattle.ojp_http.specs.declared.fed.ReplyRefused.TheVariants as refused_as
+use Rattle.ojp_http.specs.declared.fed.Stage.{Stage}
+use Rattle.ojp_http.specs.declared.fed.Stage.TheVariants.{Reading, Whole, Over}
+use Rattle.ojp_http.specs.declared.machine.Place.{Place}
+use Rattle.ojp_http.specs.declared.machine.Place.TheVariants as places
+use Rattle.ojp_http.specs.declared.machine.Framing.{Framing}
+use Rattle.ojp_http.specs.declared.machine.Stop.{Stop}
+use Rattle.ojp_http.specs.declared.machine.Stop.TheVariants.{Refused, NoMemory}
+use Rattle.ojp_http.specs.Verdicts.{Verdict, whole, refused, cut, after}
+use Rattle.ojp_http.specs.Bodies.{Replies}
+use Rattle.ojp_http.specs.Machine.{ReadsAt, Reads, IsOpenAt, IsNewReply, Took, Feeds, is_whole_at}
+use Rattle.ojp_http.specs.Replying.{ReplyView, HasTaken, HasFed, ReadsOn, Answers, IsRefused, BeginsNoReply, refusal_at}
+use Rattle.ojp_http.specs.declared.refusal.Refusal.{Refusal}
+use Rattle.ojp_http.proofs.Unique.{replies_only}
+use Rattle.ojp_http.proofs.MachineFacts.{after-nil}
+use Rattle.ojp_http.proofs.Stepping.{after-append}
+use Rattle.ojp_http.proofs.Feeding.{whole_place}
+
+-- a reply at this stage, over this framing
+abbrev pub view_of : Stage → Framing → ReplyView
+view_of s f = record { stage = s; place = f.place; room = f.room; kept = f.kept.items; scan = f.scan }
+
+not_whole : (p : Place) → p ≢ places.Whole → is_whole_at p ≡ false
+not_whole places.Head n = refl
+not_whole places.ReplyHead n = refl
+not_whole (places.Content left) n = refl
+not_whole places.Line n = refl
+not_whole (places.Data left) n = refl
+not_whole (places.Return has_return) n = refl
+not_whole places.Trailing n = refl
+not_whole places.Whole n = absurd (n refl)
+
+pub taken_none : (f : Framing) → IsNewReply f → HasTaken (view_of Reading f) [] []
+taken_none f n = record {
+  reads = λ rest v x. subst (λ (w : Verdict). Replies rest w) (sym (after-nil v)) (n.reads rest v x);
+  ready = n.ready;
+  unfinished = not_whole f.place n.unfinished;
+}
+
+pub open_new : (f : Framing) → IsNewReply f → IsOpenAt f.place f.kept.items f.scan × (is_whole_at f.place ≡ false)
+open_new f n = (n.ready, not_whole f.place n.unfinished)
+
+-- where the bytes are refused, no reply begins with them
+begins_none : (bytes : List ℕ) (e : Refusal) → ((rest : List ℕ) → Replies (bytes ++ rest) (refused e)) → BeginsNoReply bytes
+begins_none bytes e decided more body x = let same : refused e ≡ whole body [] = replies_only (bytes ++ more) body [] (refused e) x (decided more) in cc
+
+module _ (f g : Framing) (bytes got piece items out : List ℕ) where
+  whole_core : (used : ℕ) → HasTaken (view_of Reading f) bytes got → Took f g piece items out used → is_whole_at g.place ≡ true
+      → ReadsOn (view_of Whole g) bytes got piece items out (Ok (fed.Whole used))
+  whole_core used h t w =
+      let gained = t.goes.gained in
+      let here : Reads g [] (whole [] []) = subst (λ (p : Place). ReadsAt p g.room g.kept.items [] (whole [] [])) (sym (whole_place g.place w)) refl in
+      let all : Replies (bytes ++ (take used piece ++ [])) (whole (got ++ (gained ++ [])) []) = h.reads (take used piece ++ []) (whole (gained ++ []) []) (t.goes.moves.reads [] (whole [] []) here) in (
+        record {
+          within = t.goes.within;
+          gained = gained;
+          grows = t.goes.grows;
+          fed = subst (λ (l : List ℕ). Replies (bytes ++ l) (whole (got ++ gained) [])) (append-nil (take used piece))
+              (subst (λ (l : List ℕ). Replies (bytes ++ (take used piece ++ [])) (whole (got ++ l) [])) (append-nil gained) all);
+        },
+        refl,
+      )
+
+  more_core : (used : ℕ) → HasTaken (view_of Reading f) bytes got → Took f g piece items out used → is_whole_at g.place ≡ false
+      → ReadsOn (view_of Reading g) bytes got piece items out (Ok fed.More)
+  more_core used h t n =
+      let gained = t.goes.gained in
+      let all : used ≡ length piece = t.all (λ w. let e : true ≡ false = ap is_whole_at (sym w) ∙ n in cc) in (
+        record {
+          within = subst (λ (k : ℕ). k ≤ length piece) all t.goes.within;
+          gained = gained;
+          grows = t.goes.grows;
+          fed = subst (λ (k : ℕ). HasTaken (view_of Reading g) (bytes ++ take k piece) (got ++ gained)) all (record {
+            reads = λ rest v x.
+                subst (λ (l : List ℕ). Replies l (after (got ++ gained) v)) (sym (append_assoc bytes (take used piece) rest))
+                (subst (λ (w : Verdict). Replies (bytes ++ (take used piece ++ rest)) w) (after-append got gained v)
+                (h.reads (take used piece ++ rest) (after gained v) (t.goes.moves.reads rest v x)));
+            ready = t.goes.moves.ready;
+            unfinished = n;
+          });
+        },
+        refl,
+      )
+
+  stop_core : (stop : Stop) → HasTaken (view_of Reading f) bytes got → Feeds f piece items (Err stop) g out
+      → ReadsOn (view_of (Over (refusal_at stop)) g) bytes got piece items out (Err (refusal_at stop))
+  stop_core (Refused e) h s =
+      let decided : (rest : List ℕ) → Replies ((bytes ++ piece) ++ rest) (refused e) =
+      λ rest. subst (λ (l : List ℕ). Replies l (refused e)) (sym (append_assoc bytes piece rest)) (h.reads (piece ++ rest) (refused e) (s rest)) in
+      (refl, λ bad. record { refusal = e; none = begins_none (bytes ++ piece) e decided; decided = decided })
+  stop_core NoMemory h s = (refl, λ bad. absurd (cc))
+
+  module _ (old : ReplyView) (before end : List ℕ) where
+    place_in : (new : ReplyView) (r : Result ReplyFed ReplyRefused) → old ≡ view_of Reading f → before ≡ items → end ≡ out
+        → (HasTaken (view_of Reading f) bytes got → ReadsOn new bytes got piece items out r) → HasFed old bytes got → Answers old new bytes got piece before end r
+    place_in new r e b a core h =
+        subst (λ (o : ReplyView). HasFed o bytes got → Answers o new bytes got piece before end r) (sym e)
+        (λ x. subst (λ (l : List ℕ). ReadsOn new bytes got piece l end r) (sym b) (subst (λ (l : List ℕ). ReadsOn new bytes got piece items l r) (sym a) (core x))) h
+
+    pub feeds_whole : (used : ℕ) → old ≡ view_of Reading f → before ≡ items → end ≡ out → Took f g piece items out used → is_whole_at g.place ≡ true
+        → HasFed old bytes got → Answers old (view_of Whole g) bytes got piece before end (Ok (fed.Whole used))
+    feeds_whole used e b a t w h = place_in (view_of Whole g) (Ok (fed.Whole used)) e b a (λ x. whole_core used x t w) h
+
+    pub feeds_more : (s : Stage) → s ≡ Reading → (used : ℕ) → old ≡ view_of Reading f → before ≡ items → end ≡ out → Took f g piece items out used → is_whole_at g.place ≡ false
+        → HasFed old bytes got → Answers old (view_of s g) bytes got piece before end (Ok fed.More)
+    feeds_more s is used e b a t n h =
+        subst (λ (q : Stage). Answers old (view_of q g) bytes got piece before end (Ok fed.More)) (sym is)
+        (place_in (view_of Reading g) (Ok fed.More) e b a (λ x. more_core used x t n) h)
+
+    pub feeds_over : (stop : Stop) (refusal : ReplyRefused) → refusal ≡ refusal_at stop → old ≡ view_of Reading f → before ≡ items → end ≡ out → Feeds f piece items (Err stop) g out
+        → HasFed old bytes got → Answers old (view_of (Over refusal) g) bytes got piece before end (Err refusal)
+    feeds_over stop refusal is e b a s h =
+        subst (λ (q : ReplyRefused). Answers old (view_of (Over q) g) bytes got piece before end (Err q)) (sym is)
+        (place_in (view_of (Over (refusal_at stop)) g) (Err (refusal_at stop)) e b a (λ x. stop_core stop x s) h)

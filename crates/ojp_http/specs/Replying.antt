@@ -1,0 +1,89 @@
+-- A reply in pieces, as it is seen from outside.
+use Rattle.std.specs.Prelude.{◌≡◌, ◌≢◌, ℕ, ◌<◌, ◌≤◌, Bool, false, List, [], ◌∷◌, ◌++◌, length, take, Option, Result, Ok, Err}
+use Rattle.ojp_http.specs.declared.refusal.Refusal.{Refusal}
+use Rattle.ojp_http.specs.declared.fed.ReplyFed.{ReplyFed}
+use Rattle.ojp_http.specs.declared.fed.ReplyFed.TheVariants as fed
+use Rattle.ojp_http.specs.declared.fed.ReplyRefused.{ReplyRefused}
+use Rattle.ojp_http.specs.declared.fed.ReplyRefused.TheVariants as refused_as
+use Rattle.ojp_http.specs.declared.fed.Stage.{Stage}
+use Rattle.ojp_http.specs.declared.fed.Stage.TheVariants.{Reading, Whole, Over}
+use Rattle.ojp_http.specs.declared.machine.Place.{Place}
+use Rattle.ojp_http.specs.declared.machine.Stop.{Stop}
+use Rattle.ojp_http.specs.declared.machine.Stop.TheVariants.{Refused, NoMemory}
+use Rattle.ojp_http.specs.declared.scan.Scan.{Scan}
+use Rattle.ojp_http.specs.Verdicts.{Verdict, whole, refused, cut, after}
+use Rattle.ojp_http.specs.Bodies.{Replies}
+use Rattle.ojp_http.specs.Asking.{HttpReply}
+use Rattle.ojp_http.specs.Machine.{ReadsAt, IsOpenAt, is_whole_at}
+
+-- a reply that is read: its stage, and where its framing stands
+pub record ReplyView : Type 0 where
+  pub stage : Stage
+  pub place : Place
+  pub room : Option ℕ
+  pub kept : List ℕ
+  pub scan : Scan
+
+-- these bytes were taken, and these of the body gained: however the rest reads, it read so
+pub record HasTaken (r : ReplyView) (bytes got : List ℕ) : Type 0 where
+  pub reads : (rest : List ℕ) (v : Verdict) → ReadsAt r.place r.room r.kept rest v → Replies (bytes ++ rest) (after got v)
+  pub ready : IsOpenAt r.place r.kept r.scan
+  pub unfinished : is_whole_at r.place ≡ false
+
+-- what was fed, with the bytes of the body in it
+abbrev pub HasFedAt : Stage → ReplyView → List ℕ → List ℕ → Type 0
+HasFedAt Reading r bytes got = HasTaken r bytes got
+HasFedAt Whole r bytes got = HttpReply bytes got
+HasFedAt (Over e) r bytes got = Unit {0}
+
+abbrev pub HasFed : ReplyView → List ℕ → List ℕ → Type 0
+HasFed r bytes got = HasFedAt r.stage r bytes got
+
+-- the machine is in order while it reads
+abbrev pub IsSoundAt : Stage → Place → List ℕ → Scan → Type 0
+IsSoundAt Reading place kept scan = IsOpenAt place kept scan × (is_whole_at place ≡ false)
+IsSoundAt Whole place kept scan = Unit {0}
+IsSoundAt (Over e) place kept scan = Unit {0}
+
+-- no reply begins with these bytes
+abbrev pub BeginsNoReply : List ℕ → Type 0
+BeginsNoReply bytes = (more body : List ℕ) → ¬ (HttpReply (bytes ++ more) body)
+
+-- the bytes decide a refusal, whatever follows, and no reply begins with them
+pub record IsRefused (bytes : List ℕ) : Type 0 where
+  pub refusal : Refusal
+  pub none : BeginsNoReply bytes
+  pub decided : (rest : List ℕ) → Replies (bytes ++ rest) (refused refusal)
+
+-- so many bytes of the piece belong to the reply, and the body grew
+pub record Grows (new : ReplyView) (bytes got piece before after : List ℕ) (used : ℕ) : Type 0 where
+  pub within : used ≤ length piece
+  pub gained : List ℕ
+  pub grows : after ≡ before ++ gained
+  pub fed : HasFed new (bytes ++ take used piece) (got ++ gained)
+
+-- a reply goes on, where all bytes would be cut if they ended here; or it ends within the piece; or the bytes decide a refusal
+abbrev pub ReadsOn : ReplyView → List ℕ → List ℕ → List ℕ → List ℕ → List ℕ → Result ReplyFed ReplyRefused → Type 0
+ReadsOn new bytes got piece before after (Ok fed.More) = Grows new bytes got piece before after (length piece) × (new.stage ≡ Reading)
+ReadsOn new bytes got piece before after (Ok (fed.Whole used)) = Grows new bytes got piece before after used × (new.stage ≡ Whole)
+ReadsOn new bytes got piece before after (Err e) = (new.stage ≡ Over e) × (e ≡ refused_as.Bad → IsRefused (bytes ++ piece))
+
+-- after a whole reply an empty piece is whole again, and another is bad
+abbrev pub EndsAfter : ReplyView → List ℕ → Result ReplyFed ReplyRefused → Type 0
+EndsAfter new piece (Ok fed.More) = ⊥
+EndsAfter new piece (Ok (fed.Whole used)) = (used ≡ 0) × (piece ≡ []) × (new.stage ≡ Whole)
+EndsAfter new piece (Err e) = (e ≡ refused_as.Bad) × (piece ≢ []) × (new.stage ≡ Over refused_as.Bad)
+
+-- what a piece leads to; a refusal is answered again
+abbrev pub AnswersAt : Stage → ReplyView → List ℕ → List ℕ → List ℕ → List ℕ → List ℕ → Result ReplyFed ReplyRefused → Type 0
+AnswersAt Reading new bytes got piece before after r = ReadsOn new bytes got piece before after r
+AnswersAt Whole new bytes got piece before after r = EndsAfter new piece r × (after ≡ before)
+AnswersAt (Over e) new bytes got piece before after r = (r ≡ Err e) × (new.stage ≡ Over e) × (after ≡ before)
+
+-- what a piece leads to, by the stage
+abbrev pub Answers : ReplyView → ReplyView → List ℕ → List ℕ → List ℕ → List ℕ → List ℕ → Result ReplyFed ReplyRefused → Type 0
+Answers old new bytes got piece before after r = AnswersAt old.stage new bytes got piece before after r
+
+abbrev pub refusal_at : Stop → ReplyRefused
+refusal_at (Refused e) = refused_as.Bad
+refusal_at NoMemory = refused_as.NoMemory
