@@ -109,3 +109,6 @@ fn doc_of(content: Content) -> Doc
         Either::Right(Element(Element(delivery))) => Doc::Delivery(delivery),
     }
 }
+
+#[cfg(test)]
+mod tests;
