@@ -1,25 +1,19 @@
 -- From one item to the next, and what stands where none comes.
-use Rattle.std.proofs.Common.{◌≡◌, ◌≢◌, refl, ℕ, zero, suc, ◌+◌, ◌<◌, ◌≤◌, Bool, true, false, List, [], ◌∷◌, ◌++◌, length, Some, None, ◌⊎◌, inl, inr, sym, ◌∙◌, ap, subst, arith, append_assoc, length-append}
+use Rattle.std.proofs.Common.{◌≡◌, refl, ℕ, ◌<◌, List, [], ◌∷◌, ◌++◌, Some, None, ◌⊎◌, inl, inr, sym, ◌∙◌, ap, subst, append_assoc}
 use Rattle.std.proofs.lemmas.List.{append_cancel_left, append-nil}
 use Rattle.std.proofs.lemmas.List.Concat.{flat_map-append}
-use Rattle.std.proofs.lemmas.Bool.{eq-eqb, eqb-true}
+use Rattle.std.proofs.lemmas.Bool.{eqb-true}
 use Rattle.ojp_values.specs.declared.kinds.Kind.{Kind}
-use Rattle.ojp_values.specs.declared.documents.Doc.{Doc}
 use Rattle.ojp_grammar.specs.declared.fields.FieldValue.{FieldValue}
-use Rattle.ojp_grammar.specs.declared.refusals.Want.{Want}
-use Rattle.ojp_grammar.specs.declared.refusals.Reason.{Reason}
-use Rattle.ojp_grammar.specs.declared.refusals.Reason.TheVariants as reasons
-use Rattle.ojp_grammar.specs.Fields.{kind_of, IsFieldValue, field_text}
+use Rattle.ojp_grammar.specs.Fields.{kind_of, field_text}
 use Rattle.ojp_grammar.specs.Items.{Item, tag, value, item_text, text, spell}
 use Rattle.ojp_grammar.specs.Syntax.{Syntax, FieldOf, value_of}
 use Rattle.ojp_grammar.specs.Syntax as shapes
-use Rattle.ojp_grammar.specs.Documents.{items, IsWanted, Spells}
-use Rattle.ojp_grammar.specs.Places.{Stands, BeginsMarkup, EndsWhole, Begins, Expects, ExpectsField, IsProperPrefix, IsOpenRun, StandsFor, IsRefused}
-use Rattle.ojp_grammar.specs.Steps.{begins, enter, wants, leave, step, Accepts, Comes, Sticks, IsPlain, ArePlain}
-use Rattle.ojp_grammar.specs.Reached.{At, GoesOn, IsNoFurther}
-use Rattle.ojp_grammar.proofs.Words.{kind_of-value_of}
-use Rattle.ojp_grammar.proofs.Plain.{enter_plain, leave_plain, leave_closes, first_text, some_value, some_items}
-use Rattle.ojp_grammar.proofs.Spelled.{text_opens, opens_more, same_item, sticks_alone}
+use Rattle.ojp_grammar.specs.Places.{BeginsMarkup, EndsWhole}
+use Rattle.ojp_grammar.specs.Steps.{enter, wants, leave, step, Accepts, Comes, IsPlain, ArePlain}
+use Rattle.ojp_grammar.specs.Reached.{At}
+use Rattle.ojp_grammar.proofs.Plain.{enter_plain, leave_plain, leave_closes}
+use Rattle.ojp_grammar.proofs.Spelled.{text_opens, opens_more}
 
 -- ---- lists
 

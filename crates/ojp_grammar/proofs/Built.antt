@@ -1,6 +1,6 @@
 -- Parts that are built from bytes that spell them.
-use Rattle.std.proofs.Common.{◌≡◌, ◌≢◌, refl, ℕ, zero, suc, ◌+◌, ◌-◌, ◌<◌, ◌≤◌, Bool, true, false, List, [], ◌∷◌, ◌++◌, length, take, drop, get_or, Option, Some, None, Result, Ok, Err, MatchResult, MatchOption, ◌⊎◌, inl, inr, sym, ◌∙◌, ap, subst, arith, append_assoc, length-append, take-append-drop}
-use Rattle.std.specs.Prelude.{map, ◌==◌, ◌||◌, ◌&&◌, not, nat_eq}
+use Rattle.std.proofs.Common.{◌≡◌, refl, ℕ, suc, ◌+◌, ◌<◌, ◌≤◌, true, false, List, [], ◌∷◌, ◌++◌, length, take, drop, get_or, Some, None, Ok, Err, inl, inr, sym, ◌∙◌, ap, subst, arith, append_assoc, length-append, take-append-drop}
+use Rattle.std.specs.Prelude.{map, ◌==◌, ◌&&◌, not, nat_eq}
 use Rattle.std.specs.List.{starts_with, AllByRecursion}
 use Rattle.std.proofs.lemmas.Bool.{eq-eqb, eqb-true}
 use Rattle.std.proofs.lemmas.List.{map-append, length-map}
@@ -11,17 +11,16 @@ use Rattle.ojp_values.specs.declared.kinds.Kind.{Kind}
 use Rattle.ojp_grammar.specs.declared.fields.FieldValue.{FieldValue}
 use Rattle.ojp_grammar.specs.declared.cursor.Unbuilt.{Unbuilt}
 use Rattle.ojp_grammar.specs.declared.cursor.Unbuilt.TheVariants.{NoMemory}
-use Rattle.ojp_grammar.specs.declared.parts.Either.{Either}
 use Rattle.ojp_grammar.specs.declared.parts.Either.TheVariants.{Left, Right}
-use Rattle.ojp_grammar.specs.Fields.{kind_of, IsFieldValue, field_text, Spells}
+use Rattle.ojp_grammar.specs.Fields.{IsFieldValue, field_text, Spells}
 use Rattle.ojp_grammar.specs.Items.{Item, tag, value, item_text, spell}
 use Rattle.ojp_grammar.specs.Items as items
 use Rattle.ojp_grammar.specs.Syntax.{Syntax, text, field, both, either, many, element, leaf, Says, put, put_each, Fits, FieldOf, value_of}
 use Rattle.ojp_grammar.specs.Steps.{begins, wants, IsPlain}
 use Rattle.ojp_grammar.specs.Places.{Run, BeginsMarkup}
-use Rattle.ojp_grammar.specs.Building.{Builds, BuildsEach, Takes, IsRunOf, starts}
+use Rattle.ojp_grammar.specs.Building.{Builds, Takes, IsRunOf, starts}
 use Rattle.ojp_grammar.specs.Parts.{either_says}
-use Rattle.ojp_grammar.proofs.Tests.{either_way, false_of, or_left, or_right, or_cases, and_both, and_left, and_right, not_zero, zero_is}
+use Rattle.ojp_grammar.proofs.Tests.{or_left, or_right, or_cases, and_both, and_left, and_right, not_zero, zero_is}
 use Rattle.ojp_grammar.proofs.Words.{AreApart, kind_of-value_of}
 use Rattle.ojp_grammar.proofs.Plain.{begins_small}
 use Rattle.ojp_grammar.proofs.Spelled.{starts_with-append, text_same, text_opens, opens_more, run_same, run_stops, field_runs}

@@ -1,26 +1,25 @@
 -- Texts that are cut short, and runs of a field.
-use Rattle.std.proofs.Common.{◌≡◌, ◌≢◌, refl, ℕ, zero, suc, ◌+◌, ◌-◌, ◌<◌, ◌≤◌, Bool, true, false, List, [], ◌∷◌, ◌++◌, length, take, drop, get_or, Option, Some, None, MatchOption, ◌⊎◌, inl, inr, sym, ◌∙◌, ap, subst, arith, append_assoc, length-append, take-append-drop, All, min, length-take-le}
-use Rattle.std.specs.Prelude.{◌==◌, ◌&&◌, nat_eq, MatchBool}
-use Rattle.std.specs.List.{starts_with, AllByRecursion}
-use Rattle.std.specs.Cmp.Lexicographic.{pointwise}
+use Rattle.std.proofs.Common.{◌≡◌, ◌≢◌, refl, ℕ, zero, suc, ◌+◌, ◌<◌, ◌≤◌, Bool, true, false, List, [], ◌∷◌, ◌++◌, length, take, drop, get_or, Option, Some, None, ◌⊎◌, inl, inr, sym, ◌∙◌, ap, subst, arith, length-append, take-append-drop, min, length-take-le}
+use Rattle.std.specs.Prelude.{◌==◌, nat_eq, MatchBool}
+use Rattle.std.specs.List.{starts_with}
 use Rattle.std.proofs.lemmas.Bool.{eq-eqb, eqb-true}
 use Rattle.std.proofs.lemmas.List.{get_or-take, append-nil}
 use Rattle.std.proofs.Math.Seq.{drop-cons}
 use Rattle.memchr.specs.Find.{IsFirstByte, is_byte}
-use Rattle.ojp_grammar.specs.Places.{Run, IsProperPrefix, IsOpenRun, BeginsMarkup}
+use Rattle.ojp_grammar.specs.Places.{Run, IsProperPrefix, BeginsMarkup}
 use Rattle.ojp_grammar.specs.Machine.{IsRun, IsField, IsFront, IsCut, Finds}
 use Rattle.std.proofs.lemmas.List.Elements.{All-from_recursion}
 use Rattle.ojp_values.specs.declared.kinds.Kind.{Kind}
 use Rattle.ojp_grammar.specs.declared.fields.FieldValue.{FieldValue}
 use Rattle.ojp_grammar.specs.declared.refusals.Reason.TheVariants as reasons
 use Rattle.ojp_grammar.specs.declared.machine.Found.TheVariants as founds
-use Rattle.ojp_grammar.specs.Fields.{kind_of, IsFieldValue, field_text, Spells}
+use Rattle.ojp_grammar.specs.Fields.{field_text, Spells}
 use Rattle.ojp_grammar.specs.Items.{text}
 use Rattle.ojp_grammar.specs.Syntax.{Syntax}
 use Rattle.ojp_grammar.specs.Steps.{begins, wants, Sticks, IsPlain}
 use Rattle.ojp_grammar.proofs.Plain.{begins_small}
 use Rattle.ojp_grammar.proofs.FieldLaws.{bare}
-use Rattle.ojp_grammar.proofs.Tests.{either_way, false_of, and_left, and_right}
+use Rattle.ojp_grammar.proofs.Tests.{and_left, and_right}
 use Rattle.ojp_grammar.proofs.Spelled.{starts_with-append, text_opens, open_run_stops, run_same, field_runs}
 
 -- ---- texts at the front

@@ -1,16 +1,15 @@
 -- Laws of field texts.
-use Rattle.std.proofs.Common.{◌≡◌, ◌≢◌, refl, ℕ, zero, suc, ◌+◌, ◌-◌, ◌*◌, ◌/◌, ◌%◌, ◌<◌, ◌≤◌, ◌^◌, Bool, true, false, List, [], ◌∷◌, ◌++◌, length, get_or, All, decimal, sym, ◌∙◌, ap, subst, arith, length-append, take, drop, take-append-drop, inl, inr, lit≤, lit<, rules}
-use Rattle.std.specs.Prelude.{◌&&◌, ◌||◌, ◌==◌, nat_le, IsTrue, codes, not, bytes_eq}
-use Rattle.std.specs.List.{list_all, AllByRecursion, flat_map, position_or_len}
+use Rattle.std.proofs.Common.{◌≡◌, refl, ℕ, ◌+◌, ◌*◌, ◌/◌, ◌%◌, ◌<◌, ◌≤◌, ◌^◌, Bool, true, false, List, [], ◌∷◌, ◌++◌, length, decimal, sym, ◌∙◌, ap, subst, arith, length-append, take, drop, take-append-drop, inl, inr, lit≤, lit<, rules}
+use Rattle.std.specs.Prelude.{◌&&◌, ◌||◌, ◌==◌, nat_le, not, bytes_eq}
+use Rattle.std.specs.List.{list_all, position_or_len}
 use Rattle.std.specs.Str.{is_utf8}
 use Rattle.std.proofs.lemmas.Bool.{eq-eqb, eqb-true, leb-true}
 use Rattle.std.proofs.lemmas.Fmt.{decimal_injective, decimal_by_steps, decimal_nonempty, length-decimal-le}
 use Rattle.ojp_values.specs.Texts.{is_stop_ref, is_code, is_label, is_name, is_code_byte, is_local_byte, is_name_byte, is_between, is_x, is_tail, is_colon, has_noncharacter, escaped, escaped_byte}
-use Rattle.ojp_values.specs.Dates.{two, four, date_of, day_text, clock_text, moment_text}
+use Rattle.ojp_values.specs.Dates.{two, four, date_of, day_text, clock_text}
 use Rattle.ojp_values.specs.Numbers.{duration_text}
 use Rattle.ojp_values.proofs.Escapes.{escaped_injective}
 use Rattle.ojp_values.proofs.Calendar.{day_text_injective, date_is_writable, days_have_dates}
-use Rattle.ojp_values.specs.declared.kinds.Kind.{Kind}
 use Rattle.ojp_values.specs.declared.kinds.EventKind.{EventKind as Events}
 use Rattle.ojp_values.specs.declared.kinds.EventKind.TheVariants.{Departure, Arrival}
 use Rattle.ojp_grammar.specs.declared.fields.FieldValue.{FieldValue}

@@ -14,3 +14,5 @@ pub mod OneKind
 pub mod Runs
 pub mod Built
 pub mod Rebuilt
+pub mod Unique
+pub mod Spellings

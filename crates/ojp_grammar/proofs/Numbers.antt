@@ -1,9 +1,9 @@
 -- Numbers, events and moments of one text.
-use Rattle.std.proofs.Common.{◌≡◌, refl, ℕ, ◌+◌, ◌*◌, ◌/◌, ◌%◌, ◌<◌, ◌≤◌, ◌^◌, List, [], ◌∷◌, ◌++◌, length, decimal, sym, ◌∙◌, ap, arith, get_or, take, drop}
+use Rattle.std.proofs.Common.{◌≡◌, refl, ℕ, ◌+◌, ◌/◌, ◌%◌, ◌<◌, ◌≤◌, ◌^◌, [], ◌∷◌, ◌++◌, decimal, ap, arith, get_or, take, drop}
 use Rattle.std.proofs.lemmas.Fmt.{decimal_injective}
 use Rattle.std.proofs.lemmas.List.{append_cancel_right}
 use Rattle.ojp_values.specs.Numbers.{duration_text}
-use Rattle.ojp_values.specs.Dates.{two, day_text, moment_text, clock_text}
+use Rattle.ojp_values.specs.Dates.{two, moment_text, clock_text}
 use Rattle.ojp_values.specs.declared.kinds.EventKind.{EventKind as Events}
 use Rattle.ojp_values.specs.declared.kinds.EventKind.TheVariants.{Departure, Arrival}
 use Rattle.ojp_values.proofs.Calendar.{day_text_injective}

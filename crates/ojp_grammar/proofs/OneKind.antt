@@ -1,11 +1,8 @@
 -- Values of one kind.
-use Rattle.std.proofs.Common.{◌≡◌, ◌≢◌, ℕ, ◌<◌, ◌^◌, List, [], ◌∷◌, ◌++◌, Some, decimal, ap, sym, ◌∙◌, subst}
-use Rattle.std.proofs.lemmas.Fmt.{decimal_injective}
-use Rattle.std.proofs.lemmas.List.{append_cancel_right}
-use Rattle.ojp_values.specs.Numbers.{duration_text}
+use Rattle.std.proofs.Common.{◌≡◌, ℕ, ◌<◌, ◌^◌, List, Some, ap, sym, ◌∙◌, subst}
 use Rattle.ojp_values.specs.declared.kinds.Kind.{Kind}
 use Rattle.ojp_grammar.specs.declared.fields.FieldValue.{FieldValue}
-use Rattle.ojp_grammar.specs.Fields.{kind_of, IsFieldValue, field_text, Spells}
+use Rattle.ojp_grammar.specs.Fields.{IsFieldValue, field_text, Spells}
 use Rattle.ojp_grammar.specs.Syntax.{FieldOf, value_of}
 use Rattle.ojp_grammar.proofs.Words.{holds}
 

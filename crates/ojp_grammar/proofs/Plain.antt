@@ -1,6 +1,6 @@
 -- What plain shapes have.
-use Rattle.std.proofs.Common.{◌≡◌, refl, ℕ, zero, suc, ◌+◌, ◌-◌, ◌<◌, ◌≤◌, Bool, true, false, List, [], ◌∷◌, length, Some, None, ◌⊎◌, inl, inr, sym, ◌∙◌, ap, subst, arith, lit≤, lit<}
-use Rattle.std.specs.Prelude.{if◌then◌else◌, ◌||◌, ◌&&◌, ◌==◌, not, codes, IsTrue}
+use Rattle.std.proofs.Common.{◌≡◌, refl, ℕ, zero, suc, ◌-◌, ◌<◌, true, List, [], ◌∷◌, length, Some, None, inl, inr, sym, ap, subst, arith, lit≤, lit<}
+use Rattle.std.specs.Prelude.{◌&&◌, ◌==◌, not, codes, IsTrue}
 use Rattle.std.specs.Str.{is_utf8, chars}
 use lib.Utf8.{encode}
 use Rattle.ojp_values.specs.Texts.{is_name}
@@ -9,12 +9,11 @@ use Rattle.std.proofs.lemmas.Bool.{eq-eqb, eqb-true}
 use Rattle.ojp_values.specs.declared.kinds.Kind.{Kind}
 use Rattle.ojp_values.specs.declared.kinds.Kind.TheVariants as kinds
 use Rattle.ojp_values.specs.declared.kinds.EventKind.TheVariants.{Departure}
-use Rattle.ojp_grammar.specs.declared.fields.FieldValue.{FieldValue}
-use Rattle.ojp_grammar.specs.Fields.{kind_of, IsFieldValue}
-use Rattle.ojp_grammar.specs.Items.{Item, tag, value}
-use Rattle.ojp_grammar.specs.Syntax.{Syntax, text, field, both, either, many, Says, put, put_each, Fits, FieldOf, value_of}
-use Rattle.ojp_grammar.specs.Steps.{begins, enter, wants, leave, step, Accepts, IsPlain, ArePlain}
-use Rattle.ojp_grammar.proofs.Tests.{either_way, false_of, or_left, or_right, or_cases, and_both, and_left, and_right, not_zero, zero_is, is_zero, is_above}
+use Rattle.ojp_grammar.specs.Fields.{IsFieldValue}
+use Rattle.ojp_grammar.specs.Items.{Item}
+use Rattle.ojp_grammar.specs.Syntax.{Syntax, text, field, both, either, many, Says, put, Fits, FieldOf, value_of}
+use Rattle.ojp_grammar.specs.Steps.{begins, enter, wants, leave, Accepts, IsPlain, ArePlain}
+use Rattle.ojp_grammar.proofs.Tests.{either_way, or_left, or_right, or_cases, and_both, and_right, not_zero}
 use Rattle.ojp_grammar.proofs.Words.{put_accepts}
 
 -- ---- plain shapes stay plain

@@ -1,14 +1,13 @@
 -- What is known at the start, and after each item.
 use Rattle.std.proofs.Common.{◌≡◌, refl, ℕ, ◌+◌, ◌≤◌, List, [], ◌∷◌, ◌++◌, length, ◌⊎◌, inl, inr, sym, ◌∙◌, ap, subst, arith, append_assoc, length-append}
 use Rattle.std.proofs.lemmas.List.{append-nil}
-use Rattle.ojp_grammar.specs.declared.fields.FieldValue.{FieldValue}
-use Rattle.ojp_grammar.specs.Items.{Item, tag, value, item_text, text, spell}
+use Rattle.ojp_grammar.specs.Items.{Item, tag, value, item_text, spell}
 use Rattle.ojp_grammar.specs.Syntax.{Syntax}
-use Rattle.ojp_grammar.specs.Places.{BeginsMarkup, EndsWhole}
+use Rattle.ojp_grammar.specs.Places.{EndsWhole}
 use Rattle.ojp_grammar.specs.Steps.{step, Accepts, Comes, ArePlain}
 use Rattle.ojp_grammar.specs.Reached.{At, GoesOn, IsNoFurther}
 use Rattle.ojp_grammar.proofs.Spelled.{same_item}
-use Rattle.ojp_grammar.proofs.Behind.{nil_not_more, same_last, spell-append, spell-snoc, front_more, comes_more, accepts_step, step_accepts, step_plain, Next, next_in, never_ends}
+use Rattle.ojp_grammar.proofs.Behind.{nil_not_more, same_last, spell-snoc, front_more, comes_more, accepts_step, step_accepts, step_plain, Next, next_in, never_ends}
 
 -- nothing is read yet
 pub at_start : (start : List Syntax) (bytes : List ℕ) → ArePlain start → At start bytes [] start bytes
@@ -18,7 +17,7 @@ at_start start bytes plain = record {
   from = λ w h. h;
   parts = refl;
   whole = λ before v e. absurd (nil_not_more before (value v) [] e);
-  documents = λ more w h e. (w, refl);
+  documents = λ more after w h e. (w, refl);
   fronts = λ more other rest behind h e whole. inr (other, refl);
 }
 
@@ -44,12 +43,12 @@ not_ended start bytes front s k tail at w h e =
     let ended : Accepts [] (s ∷ k) = at.from [] (subst P e h) in absurd ended
 
 -- a document has an item next
-pub document_next : (start : List Syntax) (bytes : List ℕ) (front : List Item) (s : Syntax) (k : List Syntax) (tail : List ℕ) → ArePlain start → At start bytes front (s ∷ k) tail → (more : List ℕ) (w : List Item) → Accepts w start → bytes ++ more ≡ spell w → Next s front w (tail ++ more) []
-document_next start bytes front s k tail plain at more w h e =
-    let on = at.documents more w h e in
+pub document_next : (start : List Syntax) (bytes : List ℕ) (front : List Item) (s : Syntax) (k : List Syntax) (tail : List ℕ) → ArePlain start → At start bytes front (s ∷ k) tail → (more after : List ℕ) (w : List Item) → Accepts w start → bytes ++ more ≡ spell w ++ after → Next s front w (tail ++ more) after
+document_next start bytes front s k tail plain at more after w h e =
+    let on = at.documents more after w h e in
     let P : List Item → Type 0 = λ l. Accepts l start in
     let h' : Accepts (w ++ []) start = subst P (sym (append-nil w)) h in
-    elim (next_in start bytes front s k tail at more [] w on.0 [] on.1 h' (e ∙ sym (append-nil (spell w))) (λ before v is. absurd (never_ends w start plain h before v is))) [
+    elim (next_in start bytes front s k tail at more after w on.0 [] on.1 h' e (λ before v is. absurd (never_ends w start plain h before v is))) [
       | inl none ↦ absurd (not_ended start bytes front s k tail at w h (on.1 ∙ ap (λ l. front ++ l) none))
       | inr next ↦ next
     ]
@@ -77,9 +76,9 @@ at_step start bytes front s k tail i behind plain at comes =
       parts = at.parts ∙ (ap (λ t. spell front ++ t) (tail_is s i tail behind comes)
           ∙ (sym (append_assoc (spell front) (item_text i) behind) ∙ ap (λ t. t ++ behind) (sym (spell-snoc front i))));
       whole = ends_whole s front i tail behind comes;
-      documents = λ more w h e.
-          goes_on s front w i (tail ++ more) [] (behind ++ more) (at.plain.0, tt) (comes_more s i tail behind more comes)
-          (document_next start bytes front s k tail plain at more w h e);
+      documents = λ more after w h e.
+          goes_on s front w i (tail ++ more) after (behind ++ more) (at.plain.0, tt) (comes_more s i tail behind more comes)
+          (document_next start bytes front s k tail plain at more after w h e);
       fronts = λ more other rest after h e whole.
           further s front other i (tail ++ more) after (behind ++ more) (at.plain.0, tt) (comes_more s i tail behind more comes)
           (front_next start bytes front s k tail at more other rest after h e whole);

@@ -1,5 +1,5 @@
 -- Documents that are built from bytes that spell them.
-use Rattle.std.proofs.Common.{◌≡◌, ◌≢◌, refl, ℕ, zero, suc, ◌+◌, ◌-◌, ◌<◌, ◌≤◌, List, [], ◌∷◌, ◌++◌, length, drop, Option, Some, None, inl, inr, sym, ◌∙◌, ap, subst, arith, length-drop}
+use Rattle.std.proofs.Common.{◌≡◌, ◌≢◌, refl, ℕ, ◌<◌, ◌≤◌, List, [], ◌∷◌, length, drop, Option, sym, ◌∙◌, ap, subst, arith, length-drop}
 use Rattle.std.specs.Prelude.{map, option_map, slice_get}
 use Rattle.ojp_values.specs.declared.asks.Ask.{Ask}
 use Rattle.ojp_values.specs.declared.replies.Delivery.{Delivery as Reply}
@@ -13,7 +13,7 @@ use Rattle.ojp_grammar.specs.declared.refusals.Reason.{Reason}
 use Rattle.ojp_grammar.specs.declared.refusals.Reason.TheVariants as reasons
 use Rattle.ojp_grammar.specs.Items.{Item, spell}
 use Rattle.ojp_grammar.specs.Syntax.{Syntax, Says, put, Fits}
-use Rattle.ojp_grammar.specs.Grammar.{PLACE, TO, POINTS_ASK, REQUEST, DELIVERY, document, content, wanted}
+use Rattle.ojp_grammar.specs.Grammar.{PLACE, TO, POINTS_ASK, REQUEST, DELIVERY, document, wanted}
 use Rattle.ojp_grammar.specs.Documents.{place_said, places_said, to_said, points_ask_said, request_said, delivery_said, items, IsWell, IsWanted, Spells}
 use Rattle.ojp_grammar.specs.Places.{IsRefused}
 use Rattle.ojp_grammar.specs.Steps.{IsPlain, stack_of}

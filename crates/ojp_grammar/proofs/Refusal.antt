@@ -1,5 +1,5 @@
 -- Where the machine stops, a document is whole or the bytes are refused.
-use Rattle.std.proofs.Common.{◌≡◌, ◌≢◌, refl, ℕ, ◌+◌, ◌≤◌, true, List, [], ◌∷◌, ◌++◌, length, Some, None, ◌⊎◌, inl, inr, sym, ◌∙◌, ap, subst, arith, append_assoc, length-append}
+use Rattle.std.proofs.Common.{◌≡◌, ◌≢◌, refl, ℕ, true, List, [], ◌∷◌, ◌++◌, length, Some, inl, inr, sym, ◌∙◌, ap, subst, arith, append_assoc}
 use Rattle.std.proofs.lemmas.List.{append-nil, append_cancel_left}
 use Rattle.ojp_values.specs.declared.kinds.Kind.{Kind}
 use Rattle.ojp_values.specs.declared.documents.Doc.{Doc}
@@ -7,13 +7,12 @@ use Rattle.ojp_grammar.specs.declared.fields.FieldValue.{FieldValue}
 use Rattle.ojp_grammar.specs.declared.refusals.Want.{Want}
 use Rattle.ojp_grammar.specs.declared.refusals.Reason.{Reason}
 use Rattle.ojp_grammar.specs.declared.refusals.Reason.TheVariants as reasons
-use Rattle.ojp_grammar.specs.Fields.{kind_of, IsFieldValue}
-use Rattle.ojp_grammar.specs.Items.{Item, tag, value, item_text, text, spell}
+use Rattle.ojp_grammar.specs.Items.{Item, tag, value, spell}
 use Rattle.ojp_grammar.specs.Syntax.{Syntax, value_of}
 use Rattle.ojp_grammar.specs.Documents.{items, IsWanted, Spells}
-use Rattle.ojp_grammar.specs.Places.{Stands, BeginsMarkup, EndsWhole, Begins, Expects, ExpectsField, IsProperPrefix, IsOpenRun, StandsFor, IsRefused}
+use Rattle.ojp_grammar.specs.Places.{Stands, Begins, Expects, ExpectsField, StandsFor, IsRefused}
 use Rattle.ojp_grammar.specs.Steps.{begins, enter, wants, leave, Accepts, Comes, Sticks, IsPlain, ArePlain}
-use Rattle.ojp_grammar.specs.Reached.{At, GoesOn}
+use Rattle.ojp_grammar.specs.Reached.{At}
 use Rattle.ojp_grammar.proofs.Words.{kind_of-value_of}
 use Rattle.ojp_grammar.proofs.Plain.{enter_plain, leave_plain, first_text, some_value, some_items}
 use Rattle.ojp_grammar.proofs.Spelled.{sticks_alone}
@@ -91,12 +90,21 @@ alone s front other tail after reason plain h next =
     let P : List ℕ → Type 0 = λ bytes. Comes s next.item bytes (spell next.rest ++ after) in
     sticks_alone s tail reason next.item (spell next.rest ++ after) plain h (subst P (append-nil tail) next.comes)
 
+same_whole : (bytes : List ℕ) (doc : Doc) → Spells doc bytes → bytes ++ [] ≡ spell (items doc) ++ []
+same_whole bytes doc spelled = ap (λ b. b ++ []) spelled
+
+-- where no item comes next, no document is in front of the bytes either
+pub no_front : (want : Want) (start : List Syntax) (bytes : List ℕ) (front : List Item) (s : Syntax) (k : List Syntax) (tail : List ℕ) (reason : Reason) → Means want start → At start bytes front (s ∷ k) tail → Sticks s tail reason → (doc : Doc) (after : List ℕ) → IsWanted want doc → bytes ≡ spell (items doc) ++ after → ⊥
+no_front want start bytes front s k tail reason means at h doc after wanted e =
+    alone s front (items doc) tail after reason at.plain.0 h
+    (document_next start bytes front s k tail means.plain at [] after (items doc) (means.accepts doc wanted) (append-nil bytes ∙ e))
+
 -- where no item comes next, the bytes are refused
 pub at_refused : (want : Want) (start : List Syntax) (bytes : List ℕ) (front : List Item) (s : Syntax) (k : List Syntax) (tail : List ℕ) (reason : Reason) → Means want start → At start bytes front (s ∷ k) tail → Sticks s tail reason → IsRefused want bytes (length (spell front)) reason
 at_refused want start bytes front s k tail reason means at h = record {
   none = λ doc wanted spelled.
       alone s front (items doc) tail [] reason at.plain.0 h
-      (document_next start bytes front s k tail means.plain at [] (items doc) (means.accepts doc wanted) (append-nil bytes ∙ spelled));
+      (document_next start bytes front s k tail means.plain at [] [] (items doc) (means.accepts doc wanted) (same_whole bytes doc spelled));
   front = front;
   tail = tail;
   begins = begins_at want start bytes front (s ∷ k) tail means at;
@@ -122,7 +130,7 @@ pub at_trailing : (want : Want) (start : List Syntax) (bytes : List ℕ) (front 
 at_trailing want start bytes front tail means at some = record {
   none = λ doc wanted spelled.
       let h = means.accepts doc wanted in
-      let on = at.documents [] (items doc) h (append-nil bytes ∙ spelled) in
+      let on = at.documents [] [] (items doc) h (same_whole bytes doc spelled) in
       let P : List Item → Type 0 = λ w. Accepts w start in
       let ended : on.0 ≡ [] = none_open on.0 (at.from on.0 (subst P on.1 h)) in
       let same : items doc ≡ front = on.1 ∙ (ap (λ l. front ++ l) ended ∙ append-nil front) in

@@ -1,13 +1,13 @@
 -- The machine from step to step.
-use Rattle.std.proofs.Common.{◌≡◌, refl, ℕ, ◌+◌, ◌-◌, ◌<◌, ◌≤◌, List, [], ◌∷◌, ◌++◌, length, take, drop, sym, ◌∙◌, ap, subst, arith, length-append, length-drop}
-use Rattle.std.specs.Prelude.{map, reverse}
+use Rattle.std.proofs.Common.{◌≡◌, refl, ℕ, ◌+◌, ◌-◌, List, [], ◌∷◌, ◌++◌, length, take, drop, sym, ◌∙◌, ap, subst, arith, length-append, length-drop}
+use Rattle.std.specs.Prelude.{map}
 use Rattle.std.proofs.lemmas.List.{reverse-append, drop-drop, take_all}
 use Rattle.ojp_grammar.specs.declared.shapes.Shape.{Shape}
 use Rattle.ojp_grammar.specs.declared.refusals.Want.{Want}
 use Rattle.ojp_grammar.specs.declared.machine.Passed.TheVariants as passes
 use Rattle.ojp_grammar.specs.Items.{Item, tag, value, item_text, text, spell}
 use Rattle.ojp_grammar.specs.Syntax.{Syntax}
-use Rattle.ojp_grammar.specs.Steps.{syntax_of, stack_of, enter, leave, step, Comes, IsPlain, ArePlain}
+use Rattle.ojp_grammar.specs.Steps.{syntax_of, stack_of, enter, leave, Comes, IsPlain}
 use Rattle.ojp_grammar.specs.Reached.{At, start_of}
 use Rattle.ojp_grammar.specs.Machine.{Advances, Finds, IsReading}
 use Rattle.ojp_grammar.specs.declared.machine.Found.TheVariants as founds

@@ -1,25 +1,23 @@
 -- Texts and fields at the front of bytes.
-use Rattle.std.proofs.Common.{◌≡◌, ◌≢◌, refl, ℕ, zero, suc, ◌+◌, ◌-◌, ◌<◌, ◌≤◌, Bool, true, false, List, [], ◌∷◌, ◌++◌, length, take, drop, get_or, Some, None, ◌⊎◌, inl, inr, sym, ◌∙◌, ap, subst, arith, append_assoc, length-append, All}
-use Rattle.std.specs.Prelude.{◌||◌, ◌&&◌, ◌==◌, not, nat_eq}
-use Rattle.std.specs.List.{list_all, starts_with, AllByRecursion}
+use Rattle.std.proofs.Common.{◌≡◌, ◌≢◌, refl, ℕ, zero, suc, ◌<◌, Bool, true, false, List, [], ◌∷◌, ◌++◌, length, get_or, Some, None, ◌⊎◌, inl, inr, sym, ◌∙◌, ap, subst, arith, append_assoc}
+use Rattle.std.specs.Prelude.{◌==◌, not, nat_eq}
+use Rattle.std.specs.List.{list_all, starts_with}
 use Rattle.std.proofs.lemmas.List.Folds.{list_all_at}
 use Rattle.std.proofs.lemmas.List.Elements.{recursion_from_All}
 use Rattle.std.proofs.lemmas.List.{append-nil}
 use Rattle.ojp_grammar.specs.declared.refusals.Reason.{Reason}
 use Rattle.ojp_grammar.specs.declared.refusals.Reason.TheVariants as reasons
-use Rattle.std.specs.Cmp.Lexicographic.{pointwise}
 use Rattle.std.proofs.lemmas.List.{append_cancel_left}
 use Rattle.std.proofs.lemmas.Bool.{eq-eqb, eqb-true}
 use Rattle.ojp_tables.specs.Texts.{are_apart, is_prefix_free}
 use Rattle.ojp_tables.specs.Markup.{MARKUP_TEXTS}
-use Rattle.ojp_values.specs.declared.kinds.Kind.{Kind}
 use Rattle.ojp_grammar.specs.declared.fields.FieldValue.{FieldValue}
 use Rattle.ojp_grammar.specs.Fields.{kind_of, IsFieldValue, field_text}
-use Rattle.ojp_grammar.specs.Items.{Item, tag, value, item_text, text, spell}
+use Rattle.ojp_grammar.specs.Items.{Item, tag, value, text}
 use Rattle.ojp_grammar.specs.Syntax.{Syntax}
 use Rattle.ojp_grammar.specs.Places.{Run, BeginsMarkup, IsProperPrefix, IsOpenRun}
-use Rattle.ojp_grammar.specs.Steps.{begins, wants, Comes, Sticks, IsPlain}
-use Rattle.ojp_grammar.proofs.Tests.{either_way, false_of, and_both, and_left, and_right}
+use Rattle.ojp_grammar.specs.Steps.{Comes, Sticks, IsPlain}
+use Rattle.ojp_grammar.proofs.Tests.{either_way, and_both, and_left, and_right}
 use Rattle.ojp_grammar.proofs.Plain.{begins_no_field, begins_small}
 use Rattle.ojp_grammar.proofs.FieldLaws.{bare, one_value}
 

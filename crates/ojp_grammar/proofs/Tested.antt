@@ -1,8 +1,7 @@
 -- The test that a shape is plain.
-use Rattle.std.proofs.Common.{◌≡◌, refl, ℕ, ◌<◌, ◌≤◌, Bool, true, false, List, [], ◌∷◌, ◌++◌, Some, None, Option, ◌⊎◌, inl, inr, sym, ◌∙◌, ap, subst, arith}
+use Rattle.std.proofs.Common.{◌≡◌, refl, ℕ, Bool, true, false, List, [], ◌∷◌, ◌++◌, Some, None, Option, inl, inr, ◌∙◌, ap}
 use Rattle.std.specs.Prelude.{◌||◌, ◌&&◌, ◌==◌, not, nat_lt, nat_le, is_none}
-use Rattle.std.proofs.lemmas.Bool.{eq-eqb, eqb-true, ltb-true, leb-true}
-use Rattle.ojp_values.specs.declared.kinds.Kind.{Kind}
+use Rattle.std.proofs.lemmas.Bool.{eqb-true, ltb-true, leb-true}
 use Rattle.ojp_grammar.specs.Syntax.{Syntax, text, field, both, either, many}
 use Rattle.ojp_grammar.specs.Steps.{begins, wants, IsPlain}
 use Rattle.ojp_grammar.proofs.Tests.{or_left, or_right, or_cases, and_left, and_right}

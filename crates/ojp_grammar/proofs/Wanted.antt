@@ -1,5 +1,5 @@
 -- The wanted documents are what their shapes accept.
-use Rattle.std.proofs.Common.{◌≡◌, refl, ℕ, ◌≤◌, List, [], ◌∷◌, ◌++◌, ◌+◌, length, Option, Some, None, ◌⊎◌, inl, inr, sym, ◌∙◌, ap, subst, arith}
+use Rattle.std.proofs.Common.{◌≡◌, refl, ℕ, ◌≤◌, List, [], ◌∷◌, ◌+◌, length, Option, Some, None, ◌⊎◌, inl, inr, sym, ◌∙◌, ap, subst, arith}
 use Rattle.std.specs.Prelude.{map}
 use Rattle.ojp_tables.specs.declared.names.TheConstants.{HEAD, END, OJP_MULTI_POINT_TRIP_DELIVERY, OJP_STOP_EVENT_DELIVERY, OJP_EXCHANGE_POINTS_DELIVERY}
 use Rattle.ojp_values.specs.declared.asks.TripAsk.{TripAsk}
@@ -31,15 +31,15 @@ use Rattle.ojp_values.specs.declared.documents.Doc.{Doc}
 use Rattle.ojp_values.specs.declared.documents.Doc.TheVariants as docs
 use Rattle.ojp_grammar.specs.declared.refusals.Want.{Want}
 use Rattle.ojp_grammar.specs.declared.refusals.Want.TheVariants.{Request, Delivery, Either}
-use Rattle.ojp_grammar.specs.Items.{Item, tag, value, spell}
-use Rattle.ojp_grammar.specs.Syntax.{Syntax, text, both, either, Says, put, Fits}
-use Rattle.ojp_grammar.specs.Grammar.{PLACE, TO, TRIP_ASK, MULTI_ASK, EVENT_ASK, POINTS_ASK, ASK, LEG, TRIP, FAULT_CODE, FAULT, TRIP_OUTCOME, TRIP_DELIVERY, RESULT_OUTCOME, fault_or_list, MULTI_RESULT, MULTI_DELIVERY, EVENT, EVENT_DELIVERY, NEIGHBOUR, POINT, POINTS_DELIVERY, REPLY, REQUEST, DELIVERY, document, content, wanted}
+use Rattle.ojp_grammar.specs.Items.{Item, tag, value}
+use Rattle.ojp_grammar.specs.Syntax.{Syntax, text, either, Says, put, Fits}
+use Rattle.ojp_grammar.specs.Grammar.{PLACE, TO, TRIP_ASK, MULTI_ASK, EVENT_ASK, POINTS_ASK, ASK, LEG, TRIP, FAULT_CODE, FAULT, TRIP_OUTCOME, RESULT_OUTCOME, fault_or_list, MULTI_RESULT, EVENT, NEIGHBOUR, POINT, REPLY, REQUEST, DELIVERY, document, content, wanted}
 use Rattle.ojp_grammar.specs.Reached.{start_of}
 use Rattle.ojp_grammar.specs.Fields.{kind_of}
-use Rattle.ojp_grammar.specs.Documents.{place_said, to_said, trip_ask_said, multi_ask_said, event_ask_said, places_said, points_ask_said, ask_said, leg_said, trip_said, fault_said, trip_reply_said, result_said, multi_reply_said, event_said, events_reply_said, neighbour_said, point_said, points_reply_said, reply_said, request_said, delivery_said, items, IsOfSide, IsWell, IsWanted}
-use Rattle.ojp_grammar.specs.Steps.{Accepts, IsPlain, ArePlain}
-use Rattle.ojp_grammar.proofs.Words.{both_accepts, accepts_both, put_accepts, accepts_put, Said}
-use Rattle.ojp_grammar.proofs.Tested.{is_plain, plain_of}
+use Rattle.ojp_grammar.specs.Documents.{to_said, places_said, ask_said, leg_said, trip_said, fault_said, trip_reply_said, result_said, multi_reply_said, event_said, events_reply_said, neighbour_said, point_said, points_reply_said, reply_said, request_said, delivery_said, items, IsOfSide, IsWell, IsWanted}
+use Rattle.ojp_grammar.specs.Steps.{Accepts, IsPlain}
+use Rattle.ojp_grammar.proofs.Words.{both_accepts, accepts_both, put_accepts, accepts_put}
+use Rattle.ojp_grammar.proofs.Tested.{plain_of}
 use Rattle.ojp_grammar.proofs.Refusal.{WantedAs, Means}
 
 map_back : {A B : Type 0} (f : A → B) (g : B → A) → ((v : B) → f (g v) ≡ v) → (vs : List B) → map f (map g vs) ≡ vs
@@ -214,6 +214,56 @@ reply_back (inl v) = ap inl (trip_outcome_back v.1.0)
 reply_back (inr (inl v)) = ap (λ x. inr (inl x)) (multi_back v.1)
 reply_back (inr (inr (inl v))) = ap (λ x. inr (inr (inl x))) (events_back v.1)
 reply_back (inr (inr (inr v))) = ap (λ x. inr (inr (inr x))) (points_back v.1)
+
+-- ---- values are known by what they say
+
+places_kept : (place : Option (List ℕ)) → places_of (places_said place) ≡ place
+places_kept None = refl
+places_kept (Some stop) = refl
+
+ask_kept : (a : Ask) → ask_of (ask_said a) ≡ a
+ask_kept (asks.Trip a) = refl
+ask_kept (asks.Multi a) =
+    ap (λ targets. asks.Multi (record a { targets = targets })) (map_back to_of to_said (λ x. refl) a.targets)
+ask_kept (asks.Events a) = refl
+ask_kept (asks.Points a) = ap (λ place. asks.Points (record { place = place })) (places_kept a.place)
+
+pub ask_again : (a b : Ask) → ask_said a ≡ ask_said b → a ≡ b
+ask_again a b e = sym (ask_kept a) ∙ (ap ask_of e ∙ ask_kept b)
+
+fault_kept : (f : Fault) → fault_of (fault_said f) ≡ f
+fault_kept (SameStop stop) = refl
+fault_kept (StopUnknown stop) = refl
+fault_kept (NoTrip stop) = refl
+fault_kept (RegionFailed code) = refl
+fault_kept NotServed = refl
+
+trip_kept : (t : Trip) → trip_of (trip_said t) ≡ t
+trip_kept t = ap (λ legs. record t { legs = legs }) (map_back leg_of leg_said (λ x. refl) t.legs)
+
+result_kept : (r : TripResult) → result_of (result_said r) ≡ r
+result_kept (results.Trip t) = ap results.Trip (trip_kept t)
+result_kept (results.NoTrip stop) = refl
+
+point_kept : (p : Point) → point_of (point_said p) ≡ p
+point_kept p =
+    ap (λ neighbours. record p { neighbours = neighbours }) (map_back neighbour_of neighbour_said (λ x. refl) p.neighbours)
+
+reply_kept : (r : Reply) → reply_of (reply_said r) ≡ r
+reply_kept (replies.Trip (trip_replies.Fault f)) = ap (λ x. replies.Trip (trip_replies.Fault x)) (fault_kept f)
+reply_kept (replies.Trip (trip_replies.Trip t)) = ap (λ x. replies.Trip (trip_replies.Trip x)) (trip_kept t)
+reply_kept (replies.Multi (multi_replies.Fault f)) = ap (λ x. replies.Multi (multi_replies.Fault x)) (fault_kept f)
+reply_kept (replies.Multi (multi_replies.Results rs)) =
+    ap (λ x. replies.Multi (multi_replies.Results x)) (map_back result_of result_said result_kept rs)
+reply_kept (replies.Events (events_replies.Fault f)) = ap (λ x. replies.Events (events_replies.Fault x)) (fault_kept f)
+reply_kept (replies.Events (events_replies.Events es)) =
+    ap (λ x. replies.Events (events_replies.Events x)) (map_back event_of event_said (λ x. refl) es)
+reply_kept (replies.Points (points_replies.Fault f)) = ap (λ x. replies.Points (points_replies.Fault x)) (fault_kept f)
+reply_kept (replies.Points (points_replies.Points ps)) =
+    ap (λ x. replies.Points (points_replies.Points x)) (map_back point_of point_said point_kept ps)
+
+pub reply_again : (a b : Reply) → reply_said a ≡ reply_said b → a ≡ b
+reply_again a b e = sym (reply_kept a) ∙ (ap reply_of e ∙ reply_kept b)
 
 -- ---- documents
 

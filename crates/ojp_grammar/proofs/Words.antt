@@ -1,6 +1,6 @@
 -- What the shapes say, and the items that they accept.
-use Rattle.std.proofs.Common.{◌≡◌, refl, ℕ, zero, suc, ◌+◌, ◌-◌, ◌<◌, ◌≤◌, Bool, true, false, List, [], ◌∷◌, length, Some, None, ◌⊎◌, inl, inr, sym, ◌∙◌, ap, subst, arith}
-use Rattle.std.specs.Prelude.{if◌then◌else◌, ◌||◌, ◌&&◌, ◌==◌, not}
+use Rattle.std.proofs.Common.{◌≡◌, refl, ℕ, zero, suc, ◌-◌, ◌<◌, ◌≤◌, true, false, List, [], ◌∷◌, length, Some, None, inl, inr, sym, ◌∙◌, ap, subst, arith}
+use Rattle.std.specs.Prelude.{◌&&◌, ◌==◌, not}
 use Rattle.std.specs.List.{AllByRecursion}
 use Rattle.std.proofs.lemmas.Bool.{eq-eqb, eqb-true}
 use Rattle.ojp_values.specs.declared.kinds.Kind.{Kind}
@@ -10,7 +10,7 @@ use Rattle.ojp_grammar.specs.declared.fields.FieldValue.TheVariants.{StopRef, Co
 use Rattle.ojp_grammar.specs.Fields.{kind_of, IsFieldValue}
 use Rattle.ojp_grammar.specs.Items.{Item, tag, value}
 use Rattle.ojp_grammar.specs.Syntax.{Syntax, text, field, both, either, many, Says, put, put_each, Fits, FieldOf, value_of}
-use Rattle.ojp_grammar.specs.Steps.{begins, enter, wants, leave, Accepts, IsPlain}
+use Rattle.ojp_grammar.specs.Steps.{begins, enter, wants, Accepts, IsPlain}
 use Rattle.ojp_grammar.proofs.Tests.{either_way, false_of, or_left, or_right, or_cases, and_both, and_left, and_right, not_zero, zero_is, is_zero, is_above}
 
 -- ---- fields

@@ -1,5 +1,5 @@
 -- Values that are read from bytes that spell them.
-use Rattle.std.specs.Prelude.{◌≡◌, ℕ, ◌+◌, Bool, true, false, ◌||◌, ◌&&◌, ◌==◌, not, map, nat_eq, List, ◌++◌, length, drop, Option, Result, MatchResult, MatchOption}
+use Rattle.std.specs.Prelude.{◌≡◌, ℕ, Bool, false, ◌||◌, ◌&&◌, ◌==◌, not, map, nat_eq, List, ◌++◌, Option, Result, MatchResult, MatchOption}
 use Rattle.std.specs.List.{starts_with}
 use Rattle.ojp_values.specs.declared.kinds.Kind.{Kind}
 use Rattle.ojp_grammar.specs.declared.fields.FieldValue.{FieldValue}
@@ -7,7 +7,7 @@ use Rattle.ojp_grammar.specs.declared.cursor.Unbuilt.{Unbuilt}
 use Rattle.ojp_grammar.specs.declared.cursor.Unbuilt.TheVariants.{NoMemory}
 use Rattle.ojp_grammar.specs.Items.{Item, tag, spell}
 use Rattle.ojp_grammar.specs.Items as items
-use Rattle.ojp_grammar.specs.Syntax.{Syntax, text, field, both, either, many, Says, put, put_each, Fits, FieldOf, value_of}
+use Rattle.ojp_grammar.specs.Syntax.{Syntax, text, field, both, either, many, Says, put, Fits, FieldOf, value_of}
 use Rattle.ojp_grammar.specs.Steps.{IsPlain}
 use Rattle.ojp_grammar.specs.Places.{Run, BeginsMarkup}
 

@@ -31,7 +31,7 @@ use Rattle.ojp_values.specs.declared.documents.Doc.TheVariants as docs
 use Rattle.ojp_grammar.specs.declared.refusals.Want.{Want}
 use Rattle.ojp_grammar.specs.declared.refusals.Want.TheVariants.{Request, Delivery, Either}
 use Rattle.ojp_grammar.specs.Items.{Item, spell}
-use Rattle.ojp_grammar.specs.Syntax.{Syntax, Says, put, Fits}
+use Rattle.ojp_grammar.specs.Syntax.{Says, put, Fits}
 use Rattle.ojp_grammar.specs.Grammar.{PLACE, FROM, TO, TRIP_ASK, MULTI_ASK, EVENT_ASK, POINTS_ASK, ASK, SERVICE, HALT, LEG, TRIP, FAULT, TRIP_DELIVERY, MULTI_RESULT, MULTI_DELIVERY, EVENT, EVENT_DELIVERY, NEIGHBOUR, POINT, POINTS_DELIVERY, REPLY, REQUEST, DELIVERY, document}
 
 -- an element says its content

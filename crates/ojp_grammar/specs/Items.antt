@@ -1,5 +1,5 @@
 -- The items of documents: markup texts and fields, and how they are spelled.
-use Rattle.std.specs.Prelude.{ℕ, List, [], ◌∷◌, ◌++◌, slice_index_or}
+use Rattle.std.specs.Prelude.{ℕ, List, [], slice_index_or}
 use Rattle.std.specs.List.{flat_map}
 use Rattle.ojp_tables.specs.Markup.{MARKUP_TEXTS}
 use Rattle.ojp_grammar.specs.declared.fields.FieldValue.{FieldValue}

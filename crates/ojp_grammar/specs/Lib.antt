@@ -11,3 +11,4 @@ pub mod Parts
 pub mod Running
 pub mod Reached
 pub mod Whole
+pub mod Laws

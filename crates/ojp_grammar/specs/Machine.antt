@@ -1,5 +1,5 @@
 -- What the machine finds at its place, and what it knows.
-use Rattle.std.specs.Prelude.{◌≡◌, ◌≢◌, ◌⊎◌, All, take, ℕ, ◌<◌, ◌≤◌, ◌+◌, Bool, true, false, List, [], ◌∷◌, ◌++◌, length, drop, nat_eq, Option, Some, None, MatchOption, MatchBool}
+use Rattle.std.specs.Prelude.{◌≡◌, take, ℕ, ◌<◌, ◌≤◌, Bool, true, List, [], ◌∷◌, ◌++◌, length, drop, nat_eq, Option, MatchOption, MatchBool}
 use Rattle.std.specs.List.{starts_with}
 use Rattle.ojp_values.specs.declared.kinds.Kind.{Kind}
 use Rattle.ojp_grammar.specs.declared.fields.FieldValue.{FieldValue}

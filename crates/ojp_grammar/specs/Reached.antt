@@ -5,9 +5,8 @@ use Rattle.ojp_grammar.specs.Items.{Item, spell}
 use Rattle.ojp_grammar.specs.Syntax.{Syntax, text}
 use Rattle.ojp_grammar.specs.Grammar.{content}
 use Rattle.ojp_tables.specs.declared.names.TheConstants.{HEAD, END}
-use Rattle.ojp_grammar.specs.Documents.{IsWanted, items, Spells}
-use Rattle.ojp_grammar.specs.Places.{Begins, EndsWhole}
-use Rattle.ojp_grammar.specs.Steps.{Accepts, ArePlain, wants}
+use Rattle.ojp_grammar.specs.Places.{EndsWhole}
+use Rattle.ojp_grammar.specs.Steps.{Accepts, ArePlain}
 
 -- the shapes that are open at the start of a document
 abbrev pub start_of : Want → List Syntax
@@ -29,5 +28,5 @@ pub record At (start : List Syntax) (bytes : List ℕ) (front : List Item) (open
   pub from : (w : List Item) → Accepts (front ++ w) start → Accepts w open_shapes
   pub parts : bytes ≡ spell front ++ tail
   pub whole : EndsWhole front tail
-  pub documents : (more : List ℕ) (w : List Item) → Accepts w start → bytes ++ more ≡ spell w → GoesOn front w
+  pub documents : (more after : List ℕ) (w : List Item) → Accepts w start → bytes ++ more ≡ spell w ++ after → GoesOn front w
   pub fronts : (more : List ℕ) (other rest : List Item) (behind : List ℕ) → Accepts (other ++ rest) start → bytes ++ more ≡ spell other ++ behind → EndsWhole other behind → IsNoFurther front other

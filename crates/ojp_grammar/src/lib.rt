@@ -5,6 +5,7 @@ pub mod asks;
 pub mod cursor;
 pub mod fields;
 pub mod helds;
+pub mod laws;
 pub mod machine;
 pub mod parts;
 pub mod refusals;

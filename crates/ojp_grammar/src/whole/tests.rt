@@ -1,7 +1,6 @@
 //! Whole documents, against bytes that were written by hand.
 
 use super::*;
-use ojp_values::asks::TripAsk;
 use ojp_values::kinds::Kind;
 use std::test::Fail;
 
@@ -27,17 +26,12 @@ fn at(at: u64, reason: Reason) -> Option<WholeRefused> {
 fn requests_are_read(rt: HostRuntime) -> Result<(), Fail> {
     let alloc = rt.alloc();
     assert_eq!(rt; REQUEST.len(), 469);
-    let Doc::Ask(Ask::Trip(ask)) = whole(alloc, Want::Request, REQUEST)? else {
-        return Err(Fail::from("another document"));
-    };
-    let TripAsk {
-        origin,
-        start,
-        target,
-    } = ask;
-    assert_eq!(rt; origin.text(), b"AA:a".as_slice());
-    assert_eq!(rt; start.seconds(), 1_714_982_400);
-    assert_eq!(rt; target.text(), b"AA:b".as_slice());
+    assert_eq!(rt; refusal(alloc, Want::Request, REQUEST), None);
+    assert_eq!(rt; refusal(alloc, Want::Either, REQUEST), None);
+    assert_eq!(rt;
+        refusal(alloc, Want::Delivery, REQUEST),
+        at(127, Reason::Markup)
+    );
     Ok(())
 }
 

@@ -1,4 +1,4 @@
-use Rattle.std.proofs.Common.{◌≡◌, arith, lit<}
+use Rattle.std.proofs.Common.{◌≡◌, arith}
 use Rattle.ojp_values.specs.Numbers.{duration_text}
 use Rattle.ojp_grammar.proofs.Numbers.{same_duration}
 use Rattle.ojp_grammar.proofs.OneKind.{same_number}

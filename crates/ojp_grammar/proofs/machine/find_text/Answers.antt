@@ -1,4 +1,3 @@
-use Rattle.std.proofs.Common.{rules, arith}
 use Rattle.ojp_grammar.specs.Steps.{syntax_of}
 use Rattle.ojp_grammar.proofs.Cuts.{text_comes, no_text}
 use Rattle.ojp_grammar.proofs.machine.find_text.Goals as goal

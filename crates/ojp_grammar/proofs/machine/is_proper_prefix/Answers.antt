@@ -1,4 +1,3 @@
-use Rattle.std.proofs.Common.{rules, arith}
 use Rattle.ojp_grammar.proofs.Cuts.{cut_is}
 use Rattle.ojp_grammar.proofs.machine.is_proper_prefix.Goals as goal
 

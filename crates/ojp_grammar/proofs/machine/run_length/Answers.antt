@@ -1,4 +1,4 @@
-use Rattle.std.proofs.Common.{◌≡◌, List, ℕ, length, min, take, ap, subst}
+use Rattle.std.proofs.Common.{ℕ, take, subst}
 use Rattle.memchr.specs.Find.{IsFirstByte, is_byte}
 use Rattle.ojp_grammar.proofs.Cuts.{run_is}
 use Rattle.ojp_grammar.proofs.machine.run_length.Goals as goal

@@ -1,7 +1,7 @@
-use Rattle.std.proofs.Common.{◌≡◌, [], ◌∷◌, sym, ◌∙◌, ap, subst, List}
+use Rattle.std.proofs.Common.{◌≡◌, [], ◌∷◌, sym, ◌∙◌, ap, subst}
 use Rattle.ojp_tables.specs.declared.names.TheConstants.{HEAD, END}
-use Rattle.ojp_grammar.specs.Syntax.{Syntax, text}
-use Rattle.ojp_grammar.specs.Steps.{syntax_of, stack_of}
+use Rattle.ojp_grammar.specs.Syntax.{text}
+use Rattle.ojp_grammar.specs.Steps.{stack_of}
 use Rattle.ojp_grammar.specs.Reached.{start_of}
 use Rattle.ojp_grammar.specs.Machine.{IsReading}
 use Rattle.ojp_grammar.proofs.Runs.{reading_start, three_open}

@@ -1,5 +1,4 @@
 use Rattle.std.proofs.Common.{◌∙◌, ap, List}
-use Rattle.std.specs.Prelude.{map}
 use Rattle.ojp_grammar.specs.Syntax.{Says}
 use Rattle.ojp_grammar.proofs.parts.ManyPart.build.Goals as goal
 
