@@ -1,0 +1,7 @@
+pub mod Networks
+pub mod Views
+pub mod Rides
+pub mod Labels
+pub mod Scans
+pub mod Walks
+pub mod Trips
