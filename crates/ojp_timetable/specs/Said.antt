@@ -48,7 +48,6 @@ place_said shared stop change name =
     valued (is_place shared stop && is_number 1 7200 change && is_name name)
     (lines.Place stop (number change) name)
 
--- COORDINATOR: see COORDINATOR_READ_THIS.md at the top of your clone about neighbour lines
 -- a stop, another region and its change time
 abbrev pub neighbour_said : Text → Text → Text → Text → Said
 neighbour_said region stop code change =

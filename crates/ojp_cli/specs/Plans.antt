@@ -1,0 +1,176 @@
+-- What `plan` does with a timetable file and a request.
+use Rattle.std.specs.Prelude.{◌≡◌, ℕ, ◌<◌, ◌≤◌, IsTrue, Bool, List, ◌⊎◌, length, Option, Some, None, IfSome, Result, Ok, Err}
+use Rattle.std.specs.Option.{ForSome}
+use Rattle.std.specs.Io.KnownBytes.{Appends, Consumes, IsAtEnd}
+use Rattle.ojp_values.specs.Texts.{Text}
+use Rattle.ojp_values.specs.declared.asks.Ask.{Ask}
+use Rattle.ojp_values.specs.declared.asks.Ask.TheVariants as asks
+use Rattle.ojp_values.specs.declared.documents.Doc.TheVariants as docs
+use Rattle.ojp_values.specs.declared.replies.Delivery.{Delivery}
+use Rattle.ojp_values.specs.declared.replies.Delivery.TheVariants as deliveries
+use Rattle.ojp_values.specs.declared.replies.MultiReply.TheVariants as multi_replies
+use Rattle.ojp_values.specs.declared.replies.EventsReply.TheVariants as events_replies
+use Rattle.ojp_values.specs.declared.replies.PointsReply.TheVariants as points_replies
+use Rattle.ojp_values.specs.declared.replies.Fault.TheVariants.{NotServed}
+use Rattle.ojp_outside.specs.Causes.{Rose, Rests}
+use Rattle.ojp_outside.specs.Files.{IsContents}
+use Rattle.ojp_timetable.specs.Tables.{Timetable}
+use Rattle.ojp_timetable.specs.Answers.{TripAnswered}
+use Rattle.ojp_timetable.specs.TableText.{IsText, IsRefused as IsTableRefused}
+use Rattle.ojp_grammar.specs.Items.{spell}
+use Rattle.ojp_grammar.specs.Documents.{items, IsWell, Spells}
+use Rattle.ojp_grammar.specs.Places.{IsRefused}
+use Rattle.ojp_timetable.specs.declared.lines.TableReason.{TableReason}
+use Rattle.ojp_grammar.specs.declared.refusals.Reason.{Reason}
+use Rattle.ojp_grammar.specs.declared.refusals.Want.TheVariants.{Request}
+use Rattle.ojp_cli.specs.declared.stops.Stop.{Stop}
+use Rattle.ojp_cli.specs.declared.stops.Stop.TheVariants.{Document, Words, File, FileTooLong, Input, Output, Memory, Table}
+
+-- the most bytes of a file
+abbrev pub file_limit : ℕ
+file_limit = 16777216
+
+-- the contents by name, where a store tells them
+abbrev pub Contents : Type 0
+Contents = Option (Text → Option Text)
+
+-- `plan` answers a trip by the region's timetable; every other ask is not served
+abbrev pub PlanAnswers : Timetable → Ask → Delivery → Type 0
+PlanAnswers table (asks.Trip ask) delivery = TripAnswered table ask delivery
+PlanAnswers table (asks.Multi ask) delivery = delivery ≡ deliveries.Multi (multi_replies.Fault NotServed)
+PlanAnswers table (asks.Events ask) delivery = delivery ≡ deliveries.Events (events_replies.Fault NotServed)
+PlanAnswers table (asks.Points ask) delivery = delivery ≡ deliveries.Points (points_replies.Fault NotServed)
+
+-- the file, where the store tells its contents, is the text of the timetable
+pub record IsFileOf (contents : Contents) (file : Text) (table : Timetable) : Type 0 where
+  pub bytes : Text
+  pub held : IsContents contents file bytes
+  pub within : length bytes ≤ file_limit
+  pub is_text : IsText bytes table
+
+-- the input, where it tells its bytes, had just the request left, and was read to its end
+pub record IsRequestOf (old new : Option Text) (ended : Bool) (ask : Ask) : Type 0 where
+  pub bytes : Text
+  pub taken : Consumes old new bytes
+  pub at_end : IsAtEnd new
+  pub end_seen : IsTrue ended
+  pub spells : Spells (docs.Ask ask) bytes
+  pub well : IsWell (docs.Ask ask)
+
+-- the output gained just the spelling of a delivery that answers the request by the file's timetable
+pub record Planned (contents : Contents) (file : Text) (left left_now : Option Text) (ended : Bool) (written written_now : Option Text) : Type 0 where
+  pub table : Timetable
+  pub of_file : IsFileOf contents file table
+  pub ask : Ask
+  pub of_input : IsRequestOf left left_now ended ask
+  pub delivery : Delivery
+  pub answers : PlanAnswers table ask delivery
+  pub gained : Appends written written_now (spell (items (docs.Delivery delivery)))
+
+-- no request is what the input had left, where it tells its bytes: at this place, for this reason
+abbrev pub IsNoRequest : Option Text → ℕ → Reason → Type 0
+IsNoRequest left at reason = IfSome left (λ bytes. IsRefused Request bytes at reason)
+
+-- a read of the file failed, and its name is that of the last read that did, where the store tells it
+pub record FileFailed (faults faults_now : ℕ) (failed_name : Option (Option Text)) (file : Text) : Type 0 where
+  pub rose : Rose faults faults_now
+  pub named : IfSome failed_name (λ name. name ≡ Some file)
+
+-- the file has more bytes than a file may have, where the store tells them
+abbrev pub IsTooLong : Contents → Text → Type 0
+IsTooLong contents file = IfSome contents (λ files. ForSome (files file) (λ bytes. file_limit < length bytes))
+
+-- the file, where the store tells its contents, is refused at the line for the reason
+pub record IsRefusedFile (contents : Contents) (file : Text) (line : ℕ) (reason : TableReason) : Type 0 where
+  pub bytes : Text
+  pub held : IsContents contents file bytes
+  pub within : length bytes ≤ file_limit
+  pub refused : IsTableRefused bytes line reason
+
+-- the store tells that these are the bytes of the file, and no read of a file failed
+pub record IsReadable (contents : Contents) (faults faults_now : ℕ) (file bytes : Text) : Type 0 where
+  pub files : Text → Option Text
+  pub told : contents ≡ Some files
+  pub held : files file ≡ Some bytes
+  pub rests : Rests faults faults_now
+
+-- the file can be read, and is the text of the timetable
+pub record IsGood (contents : Contents) (faults faults_now : ℕ) (file : Text) (table : Timetable) : Type 0 where
+  pub bytes : Text
+  pub readable : IsReadable contents faults faults_now file bytes
+  pub within : length bytes ≤ file_limit
+  pub is_text : IsText bytes table
+
+-- the input tells that it had just these bytes left, and no read of it failed
+pub record IsHeard (left : Option Text) (faults faults_now : ℕ) (bytes : Text) : Type 0 where
+  pub told : left ≡ Some bytes
+  pub rests : Rests faults faults_now
+
+-- why a file gives no timetable
+abbrev pub TableStops : Contents → Option (Option Text) → ℕ → ℕ → Text → Stop → Type 0
+TableStops contents failed_name faults faults_now file File = FileFailed faults faults_now failed_name file
+TableStops contents failed_name faults faults_now file FileTooLong = IsTooLong contents file
+TableStops contents failed_name faults faults_now file (Table line reason) = IsRefusedFile contents file line reason
+TableStops contents failed_name faults faults_now file Memory = Unit {0}
+TableStops contents failed_name faults faults_now file Words = ⊥
+TableStops contents failed_name faults faults_now file Input = ⊥
+TableStops contents failed_name faults faults_now file Output = ⊥
+TableStops contents failed_name faults faults_now file (Document at reason) = ⊥
+
+-- why an input gives no request
+abbrev pub RequestStops : Option Text → ℕ → ℕ → Stop → Type 0
+RequestStops left faults faults_now (Document at reason) = IsNoRequest left at reason
+RequestStops left faults faults_now Input = Rose faults faults_now
+RequestStops left faults faults_now Memory = Unit {0}
+RequestStops left faults faults_now Words = ⊥
+RequestStops left faults faults_now File = ⊥
+RequestStops left faults faults_now FileTooLong = ⊥
+RequestStops left faults faults_now Output = ⊥
+RequestStops left faults faults_now (Table line reason) = ⊥
+
+-- why a delivery was not written
+abbrev pub WriteStops : ℕ → ℕ → Stop → Type 0
+WriteStops faults faults_now Output = Rose faults faults_now
+WriteStops faults faults_now Memory = Unit {0}
+WriteStops faults faults_now Words = ⊥
+WriteStops faults faults_now File = ⊥
+WriteStops faults faults_now FileTooLong = ⊥
+WriteStops faults faults_now Input = ⊥
+WriteStops faults faults_now (Document at reason) = ⊥
+WriteStops faults faults_now (Table line reason) = ⊥
+
+-- the file was read and accepted
+abbrev pub IsAccepted : Contents → Text → Type 0
+IsAccepted contents file = (table : Timetable) × IsFileOf contents file table
+
+-- what of the outside stands behind the end of `plan`, before the call and after it
+pub record Around : Type 0 where
+  pub contents : Contents
+  pub failed_name : Option (Option Text)
+  pub file_faults : ℕ
+  pub file_faults_now : ℕ
+  pub left : Option Text
+  pub left_now : Option Text
+  pub ended_now : Bool
+  pub input_faults : ℕ
+  pub input_faults_now : ℕ
+  pub written : Option Text
+  pub written_now : Option Text
+  pub output_faults : ℕ
+  pub output_faults_now : ℕ
+
+-- the cause of a stop of `plan`: each step before it was passed
+abbrev pub StopsFor : Around → Text → Stop → Type 0
+StopsFor a file (Document at reason) = IsAccepted a.contents file × IsNoRequest a.left at reason
+StopsFor a file Words = ⊥
+StopsFor a file File = FileFailed a.file_faults a.file_faults_now a.failed_name file
+StopsFor a file FileTooLong = IsTooLong a.contents file
+StopsFor a file Input = IsAccepted a.contents file × Rose a.input_faults a.input_faults_now
+StopsFor a file Output = IsAccepted a.contents file × (((ask : Ask) × IsRequestOf a.left a.left_now a.ended_now ask) × Rose a.output_faults a.output_faults_now)
+StopsFor a file Memory = Unit {0}
+StopsFor a file (Table line reason) = IsRefusedFile a.contents file line reason
+
+-- how `plan` ends
+abbrev pub Ends : {A : Type 0} → Around → Text → Result A Stop → Type 0
+Ends a file (Ok done) = Planned a.contents file a.left a.left_now a.ended_now a.written a.written_now
+Ends a file (Err stop) = StopsFor a file stop

@@ -1,0 +1,145 @@
+//! The command `plan`: one timetable, one request, one delivery.
+
+ghost use Rattle.std.specs.Prelude.{◌≡◌, ◌≤◌, IfOk, IfErr, OnOk, OnErr};
+ghost use Rattle.std.specs.Io.KnownBytes.{Appends, Keeps};
+ghost use Rattle.ojp_values.specs.Limits.{IsWellDelivery};
+ghost use Rattle.ojp_timetable.specs.Answers.{TripAnswered};
+ghost use Rattle.ojp_grammar.specs.Documents.{items};
+ghost use Rattle.ojp_grammar.specs.Items.{spell};
+ghost use Rattle.ojp_values.specs.declared.documents.Doc.TheVariants as docs;
+ghost use Rattle.ojp_cli.specs.Plans.{Ends, IsFileOf, IsRequestOf, PlanAnswers, TableStops, RequestStops, WriteStops};
+
+use crate::stops::Stop;
+use ojp_encode::write;
+use ojp_grammar::refusals::{Want, WholeRefused};
+use ojp_grammar::whole::whole;
+use ojp_outside::{
+    MemSink, ReadRefused, Sink, Source, Store, StoreRefused, WriteFault, put_all, read_all,
+};
+use ojp_scan::Scan;
+use ojp_scan::answers::answer_trip;
+use ojp_timetable::laws::answers_are_bounded;
+use ojp_timetable::refusals::TableRefused;
+use ojp_timetable::table::Timetable;
+use ojp_values::{
+    Ask, Delivery, Doc, EventsReply, Fault, MultiReply, NoMemory, PointsReply, TripAsk,
+};
+use std::alloc::Global;
+
+/// Reads the timetable file and one request, and writes the delivery that answers it.
+pub(crate) fn plan<I: Source, O: Sink, F: Store>(
+    alloc: Global,
+    file: &str,
+    input: &mut I,
+    output: &mut O,
+    store: &mut F,
+) -> Result<(), Stop>
+    ensures { Ends (record {
+      contents = F.contents store.old;
+      failed_name = F.failed_name store.new;
+      file_faults = F.faults store.old;
+      file_faults_now = F.faults store.new;
+      left = I.left input.old;
+      left_now = I.left input.new;
+      ended_now = I.ended input.new;
+      input_faults = I.faults input.old;
+      input_faults_now = I.faults input.new;
+      written = O.written output.old;
+      written_now = O.written output.new;
+      output_faults = O.faults output.old;
+      output_faults_now = O.faults output.new;
+    }) file.now result }
+{
+    let table = read_table(alloc, file, store)?;
+    let ask = read_request(alloc, input)?;
+    let delivery = answer(alloc, &table, &ask)?;
+    write_delivery(alloc, delivery, output)
+}
+
+fn read_table<F: Store>(alloc: Global, file: &str, store: &mut F) -> Result<Timetable, Stop>
+    ensures ok { IfOk result (λ table. IsFileOf (F.contents store.old) file.now table) }
+    ensures err { IfErr result (λ stop. TableStops (F.contents store.old) (F.failed_name store.new) (F.faults store.old) (F.faults store.new) file.now stop) }
+{
+    let bytes = match store.read_file(alloc, file) {
+        Ok(bytes) => bytes,
+        Err(StoreRefused::Failed) => return Err(Stop::File),
+        Err(StoreRefused::TooLong) => return Err(Stop::FileTooLong),
+        Err(StoreRefused::NoMemory) => return Err(Stop::Memory),
+    };
+    match Timetable::read(alloc, &bytes) {
+        Ok(table) => Ok(table),
+        Err(TableRefused::At { line, reason }) => Err(Stop::Table { line, reason }),
+        Err(TableRefused::NoMemory) => Err(Stop::Memory),
+    }
+}
+
+fn read_request<I: Source>(alloc: Global, input: &mut I) -> Result<Ask, Stop>
+    ensures ok { IfOk result (λ ask. IsRequestOf (I.left input.old) (I.left input.new) (I.ended input.new) ask) }
+    ensures err { IfErr result (λ stop. RequestStops (I.left input.old) (I.faults input.old) (I.faults input.new) stop) }
+{
+    let bytes = match read_all(alloc, input, usize::MAX) {
+        Ok(bytes) => bytes,
+        Err(ReadRefused::Failed) => return Err(Stop::Input),
+        Err(ReadRefused::NoMemory) => return Err(Stop::Memory),
+    };
+    match whole(alloc, Want::Request, &bytes) {
+        Ok(Doc::Ask(ask)) => Ok(ask),
+        Ok(Doc::Delivery(_)) => unreachable!(),
+        Err(WholeRefused::At(refused)) => Err(Stop::Document {
+            at: refused.at,
+            reason: refused.reason,
+        }),
+        Err(WholeRefused::NoMemory) => Err(Stop::Memory),
+    }
+}
+
+/// A trip is answered by the timetable; the other three services are not served.
+fn answer(alloc: Global, table: &Timetable, ask: &Ask) -> Result<Delivery, Stop>
+    ensures ok { IfOk result (λ delivery. PlanAnswers table.now ask.now delivery) }
+    ensures well { IfOk result (λ delivery. IsWellDelivery delivery) }
+    ensures err { IfErr result (λ stop. stop ≡ Stop.Memory) }
+{
+    match ask {
+        Ask::Trip(trip) => answer_by_scan(alloc, table, trip),
+        Ask::Multi(_) => Ok(Delivery::Multi(MultiReply::Fault(Fault::NotServed))),
+        Ask::Events(_) => Ok(Delivery::Events(EventsReply::Fault(Fault::NotServed))),
+        Ask::Points(_) => Ok(Delivery::Points(PointsReply::Fault(Fault::NotServed))),
+    }
+}
+
+/// The earliest trip, or why there is none, by a search over the timetable.
+fn answer_by_scan(alloc: Global, table: &Timetable, ask: &TripAsk) -> Result<Delivery, Stop>
+    ensures ok { IfOk result (λ delivery. TripAnswered table.now ask.now delivery) }
+    ensures well { IfOk result (λ delivery. IsWellDelivery delivery) }
+    ensures err { IfErr result (λ stop. stop ≡ Stop.Memory) }
+{
+    let mut scan = match Scan::new(alloc, table) {
+        Ok(scan) => scan,
+        Err(NoMemory) => return Err(Stop::Memory),
+    };
+    answers_are_bounded();
+    table.is_well();
+    match answer_trip(alloc, table, &mut scan, ask) {
+        Ok(delivery) => Ok(delivery),
+        Err(NoMemory) => Err(Stop::Memory),
+    }
+}
+
+/// Spells the delivery in memory and writes it at once.
+fn write_delivery<O: Sink>(alloc: Global, delivery: Delivery, output: &mut O) -> Result<(), Stop>
+    requires { IsWellDelivery delivery }
+    ensures ok { OnOk result (Appends (O.written output.old) (O.written output.new) (spell (items (docs.Delivery delivery)))) }
+    ensures err { IfErr result (λ stop. WriteStops (O.faults output.old) (O.faults output.new) stop) }
+{
+    let document = Doc::Delivery(delivery);
+    let mut spelled = MemSink::new(alloc, Vec::new(alloc));
+    match write(&document, &mut spelled) {
+        Ok(()) => {}
+        // A sink in memory that no write is to fail has only want of memory.
+        Err(WriteFault) => return Err(Stop::Memory),
+    }
+    match put_all(output, spelled.written()) {
+        Ok(()) => Ok(()),
+        Err(WriteFault) => Err(Stop::Output),
+    }
+}
