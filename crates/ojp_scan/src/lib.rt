@@ -10,6 +10,8 @@ mod hops;
 mod labels;
 mod networks;
 mod scans;
+#[cfg(test)]
+mod tests;
 mod views;
 
 pub use scans::Scan;
