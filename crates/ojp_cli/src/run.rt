@@ -1,6 +1,6 @@
 //! The top call.
 
-ghost use Rattle.std.specs.Prelude.{◌≡◌, ◌≤◌, ◌<◌, ◌++◌, ◌⊎◌, ◌↔◌, ℕ, List, length, codes, Some, None};
+ghost use Rattle.std.specs.Prelude.{◌≡◌, ◌≢◌, ◌≤◌, ◌<◌, ◌++◌, ◌⊎◌, ◌↔◌, ℕ, List, length, codes, Some, None};
 ghost use Rattle.std.specs.Io.KnownBytes.{Keeps};
 ghost use Rattle.ojp_values.specs.declared.asks.Ask.{Ask};
 ghost use Rattle.ojp_values.specs.declared.documents.Doc.{Doc};
@@ -89,6 +89,13 @@ pub fn run_here<I: Source, O: Sink, E: Sink, F: Store>(
         (line : ℕ) × (reason : TableReason) × IsRefusedFile (F.contents store.old) file line reason
         × Tells (E.written faults.old) (E.written faults.new) (E.faults faults.old) (E.faults faults.new) (table_text file line (table_words reason))) }
     ensures no_file { result ≡ 6 → IfCheck (named_by words.now) ⊥ }
+
+    // Where no count rose, a command ends with 0, 1, 5 or 6, or with 3 for a file that has too many bytes.
+    ensures at_rest { named_by words.now ≢ None
+        → Rests (F.faults store.old) (F.faults store.new) → Rests (I.faults input.old) (I.faults input.new)
+        → Rests (O.faults output.old) (O.faults output.new)
+        → (result ≡ 0) ⊎ ((result ≡ 1) ⊎ ((result ≡ 5) ⊎ ((result ≡ 6)
+        ⊎ ((result ≡ 3) × ((file : List ℕ) × (named_by words.now ≡ Some (Plan file)) × IsTooLong (F.contents store.old) file))))) }
 
     // Where file and input tell their bytes and no count rose, each status but 5 comes exactly where it is due.
     ensures told_too_long { (file bytes : List ℕ) → named_by words.now ≡ Some (Plan file)

@@ -15,6 +15,7 @@ use std::alloc::{AllocError, Global};
 use std::process::Abort;
 use std::test::Fail;
 
+mod tables;
 mod texts;
 
 /// One run: the words, the one file of the store, and the input.
