@@ -20,3 +20,6 @@ pub use fed::{ReplyFed, ReplyRefused};
 pub use refusal::HttpRefusal;
 pub use reply::Reply;
 pub use served::Served;
+
+#[cfg(test)]
+mod tests;

@@ -1,0 +1,177 @@
+//! Requests in pieces of one byte, of seven and of all bytes.
+use crate::{
+    HttpRefusal, Reply, ReplyFed, ReplyRefused, read_request, request, write_no_memory,
+    write_response_head,
+};
+use ojp_outside::{MemSink, MemSource};
+use ojp_values::List;
+use std::alloc::{AllocError, Global};
+use std::test::Fail;
+
+/// What a request of these bytes gives, in reads of at most `most` bytes.
+fn outcome(
+    alloc: Global,
+    bytes: &[u8],
+    most: usize,
+) -> Result<Result<List<u8>, HttpRefusal>, AllocError>
+    requires { 0 < most }
+{
+    let bytes = Vec::from_slice(alloc, bytes)?;
+    let mut input = MemSource::new(bytes, most, Vec::new(alloc));
+    Ok(read_request(alloc, &mut input))
+}
+
+#[test]
+fn refused_heads(rt: HostRuntime) -> Result<(), Fail> {
+    let cases = [
+        ("", HttpRefusal::Cut),
+        ("POST /ojp HTTP/1.1\r\nHo st: x\r\n\r\n", HttpRefusal::Head),
+        (
+            "POST /ojp HTTP/1.1\r\nHost: a\r\n b\r\n\r\n",
+            HttpRefusal::Head,
+        ),
+        (
+            "POST /ojp HTTP/1.1\r\nContent-Length : 3\r\n\r\n",
+            HttpRefusal::Head,
+        ),
+        (
+            "POST /ojp HTTP/1.1\r\nHost: a\rb\r\n\r\n",
+            HttpRefusal::Head,
+        ),
+        ("GET /ojp HTTP/1.1\r\nHost: a\r\n\r\n", HttpRefusal::Method),
+        ("POST /x HTTP/1.1\r\nHost: a\r\n\r\n", HttpRefusal::Target),
+        (
+            "POST /ojp HTTP/1.1\r\nContent-Length: 0\r\n\r\n",
+            HttpRefusal::Host,
+        ),
+        (
+            "POST /ojp HTTP/1.1\r\nHost: a\r\nhOST: a\r\n\r\n",
+            HttpRefusal::Host,
+        ),
+        ("POST /ojp HTTP/1.1\r\nHost: a\r\n\r\n", HttpRefusal::Length),
+    ];
+    for (text, refusal) in cases {
+        for most in [1, 7, 4096] {
+            let found = outcome(rt.alloc(), text.as_bytes(), most)?;
+            assert_eq!(rt; found.err(), Some(refusal), "{text}");
+        }
+    }
+    Ok(())
+}
+
+#[test]
+fn refused_bodies(rt: HostRuntime) -> Result<(), Fail> {
+    let cases = [
+        ("1\r\nContent-Length: 1\r\n\r\na", HttpRefusal::Conflict),
+        (
+            "1\r\nTransfer-Encoding: chunked\r\n\r\na",
+            HttpRefusal::Conflict,
+        ),
+        ("+1\r\n\r\na", HttpRefusal::Conflict),
+        ("1048577\r\n\r\n", HttpRefusal::TooLong),
+        (
+            "9999999999999999999999999999999999999999\r\n\r\n",
+            HttpRefusal::TooLong,
+        ),
+        ("5\r\n\r\nabc", HttpRefusal::Cut),
+    ];
+    for (text, refusal) in cases {
+        for most in [1, 7, 4096] {
+            let head = "POST /ojp HTTP/1.1\r\nHost: a\r\nContent-Length: ";
+            let bytes = format!(in rt.alloc(); "{head}{text}")?;
+            let found = outcome(rt.alloc(), bytes.as_bytes(), most)?;
+            assert_eq!(rt; found.err(), Some(refusal), "{text}");
+        }
+    }
+    Ok(())
+}
+
+#[test]
+fn refused_chunks(rt: HostRuntime) -> Result<(), Fail> {
+    let cases = [
+        ("gzip\r\n\r\n", HttpRefusal::Coding),
+        ("chunked\r\n\r\nxyz\r\n", HttpRefusal::Chunk),
+        ("chunked\r\n\r\n11111111111111111\r\n", HttpRefusal::Chunk),
+        ("chunked\r\n\r\n1\r\naXX", HttpRefusal::Chunk),
+        ("chunked\r\n\r\n100001\r\n", HttpRefusal::TooLong),
+        ("chunked\r\n\r\nxyz", HttpRefusal::Cut),
+        ("chunked\r\n\r\n0\r\nT: 1\r\n", HttpRefusal::Cut),
+    ];
+    for (text, refusal) in cases {
+        for most in [1, 7, 4096] {
+            let head = "POST /ojp HTTP/1.1\r\nHost: a\r\nTransfer-Encoding: ";
+            let bytes = format!(in rt.alloc(); "{head}{text}")?;
+            let found = outcome(rt.alloc(), bytes.as_bytes(), most)?;
+            assert_eq!(rt; found.err(), Some(refusal), "{text}");
+        }
+    }
+    Ok(())
+}
+
+#[test]
+fn bodies_by_length_and_in_chunks(rt: HostRuntime) -> Result<(), Fail> {
+    let cases = [
+        ("Content-Length: 5\r\n\r\nabcdefg", "abcde"),
+        (
+            "transfer-encoding: Chunked\r\n\r\n3;x=1\r\nabc\r\n02\r\nde\r\n0\r\nT: 1\r\n\r\n",
+            "abcde",
+        ),
+        ("Content-Length: 0\r\n\r\n", ""),
+    ];
+    for (text, body) in cases {
+        for most in [1, 7, 4096] {
+            let bytes = format!(in rt.alloc(); "\r\nPOST /ojp HTTP/1.1\r\nHost: a\r\n{text}")?;
+            match outcome(rt.alloc(), bytes.as_bytes(), most)? {
+                Ok(found) => assert_eq!(rt; found.as_slice(), body.as_bytes(), "{text}"),
+                Err(refusal) => assert!(rt; false, "{text}: {refusal:?}"),
+            }
+        }
+    }
+    Ok(())
+}
+
+#[test]
+fn the_bytes_of_requests_and_responses(rt: HostRuntime) -> Result<(), Fail> {
+    let alloc = rt.alloc();
+    match request(alloc, b"AA", b"<a/>") {
+        Ok(bytes) => {
+            let text =
+                b"POST /ojp HTTP/1.1\r\nHost: AA\r\nContent-Type: application/xml\r\nContent-Length: 4\r\nConnection: close\r\n\r\n<a/>";
+            assert_eq!(rt; bytes.as_slice(), text.as_slice());
+        }
+        Err(_) => assert!(rt; false),
+    }
+    let mut sink = MemSink::new(alloc, Vec::new(alloc));
+    assert_eq!(rt; HttpRefusal::Method.name(), "Method");
+    write_response_head(HttpRefusal::Method.status(), 7, &mut sink)?;
+    let text =
+        b"HTTP/1.1 405 Method Not Allowed\r\nAllow: POST\r\nContent-Type: text/plain\r\nContent-Length: 7\r\nConnection: close\r\n\r\n";
+    assert_eq!(rt; sink.written(), text.as_slice());
+    let mut sink = MemSink::new(alloc, Vec::new(alloc));
+    write_no_memory(&mut sink)?;
+    let text =
+        b"HTTP/1.1 503 Service Unavailable\r\nContent-Length: 0\r\nConnection: close\r\n\r\n";
+    assert_eq!(rt; sink.written(), text.as_slice());
+    Ok(())
+}
+
+#[test]
+fn a_reply_ends_within_a_piece(rt: HostRuntime) -> Result<(), Fail> {
+    let alloc = rt.alloc();
+    let text = b"HTTP/1.1 200 OK\r\nContent-Length: 5\r\n\r\nabcdefg";
+    let mut reply = Reply::new(alloc);
+    let mut body = List::new(alloc);
+    assert_eq!(rt; reply.feed(&text[..40], &mut body), Ok(ReplyFed::More));
+    assert_eq!(rt;
+        reply.feed(&text[40..], &mut body),
+        Ok(ReplyFed::Whole { used: 3 })
+    );
+    assert_eq!(rt; body.as_slice(), b"abcde".as_slice());
+    assert_eq!(rt; reply.feed(b"", &mut body), Ok(ReplyFed::Whole { used: 0 }));
+    assert_eq!(rt; reply.feed(b"f", &mut body), Err(ReplyRefused::Bad));
+    let mut reply = Reply::new(alloc);
+    let text = b"HTTP/1.1 503 Service Unavailable\r\nContent-Length: 0\r\n\r\n";
+    assert_eq!(rt; reply.feed(text, &mut body), Err(ReplyRefused::Bad));
+    assert_eq!(rt; reply.feed(b"", &mut body), Err(ReplyRefused::Bad));
+    Ok(())
+}
