@@ -1,4 +1,6 @@
 //! Requests in pieces of one byte, of seven and of all bytes.
+ghost use Rattle.std.specs.Prelude.{◌<◌};
+
 use crate::{
     HttpRefusal, Reply, ReplyFed, ReplyRefused, read_request, request, write_no_memory,
     write_response_head,
