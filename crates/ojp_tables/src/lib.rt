@@ -3,4 +3,5 @@
 
 pub mod markup;
 pub mod names;
+pub mod runs;
 pub mod table;

@@ -66,7 +66,8 @@ impl Instant {
 
     /// The instant as `YYYY-MM-DDThh:mm:ssZ`.
     pub fn text(self) -> [u8; 20]
-        ensures { result ≡ moment_text self }
+        ensures value { result ≡ moment_text self }
+        ensures well { self ≤ 7_258_118_399 }
     {
         let seconds = self.seconds();
         let date = day_digits((seconds / 86_400) as u32);
@@ -131,7 +132,9 @@ impl Day {
 
     /// The day as `YYYY-MM-DD`.
     pub fn text(self) -> [u8; 10]
-        ensures { result ≡ day_text self }
+        ensures value { result ≡ day_text self }
+        ensures from { 2 ≤ self }
+        ensures to { self ≤ 84_002 }
     {
         day_digits(self.number())
     }
