@@ -1,0 +1,88 @@
+//! The works that are measured.
+
+use crate::inputs::Inputs;
+use ojp_encode::{length, write};
+use ojp_grammar::refusals::Want;
+use ojp_grammar::whole::whole;
+use ojp_http::read_request;
+use ojp_outside::{MemSink, MemSource};
+use ojp_values::Doc;
+use std::alloc::Global;
+
+/// The most bytes of a read from a source.
+const READ: usize = 65_536;
+
+/// One work over the inputs.
+#[derive(Clone, Copy)]
+pub enum Work {
+    /// Spells the delivery into memory.
+    Write,
+    /// Tells the length of the delivery.
+    Length,
+    /// Reads the delivery's spelling as a whole.
+    Whole,
+    /// Reads a request with a body in one part.
+    Body,
+    /// Reads a request with a body in chunks.
+    Chunks,
+}
+
+impl Work {
+    pub const ALL: [Work; 5] = [
+        Work::Write,
+        Work::Length,
+        Work::Whole,
+        Work::Body,
+        Work::Chunks,
+    ];
+
+    pub fn name(self) -> &'static str {
+        match self {
+            Work::Write => "write",
+            Work::Length => "length",
+            Work::Whole => "whole",
+            Work::Body => "body",
+            Work::Chunks => "chunks",
+        }
+    }
+
+    /// Does the work once, and gives how many bytes it wrote, told or read.
+    pub fn once(self, alloc: Global, inputs: &Inputs) -> Option<u64> {
+        match self {
+            Work::Write => write_once(alloc, &inputs.delivery),
+            Work::Length => length_once(&inputs.delivery),
+            Work::Whole => whole_once(alloc, &inputs.spelled),
+            Work::Body => read_once(alloc, &inputs.by_length),
+            Work::Chunks => read_once(alloc, &inputs.in_chunks),
+        }
+    }
+}
+
+fn write_once(alloc: Global, document: &Doc) -> Option<u64> {
+    if !document.is_well() {
+        return None;
+    }
+    let mut sink = MemSink::new(alloc, Vec::new(alloc));
+    write(document, &mut sink).ok()?;
+    Some(sink.written().len() as u64)
+}
+
+fn length_once(document: &Doc) -> Option<u64> {
+    if document.is_well() {
+        Some(length(document))
+    } else {
+        None
+    }
+}
+
+fn whole_once(alloc: Global, bytes: &[u8]) -> Option<u64> {
+    whole(alloc, Want::Delivery, bytes).ok()?;
+    Some(bytes.len() as u64)
+}
+
+fn read_once(alloc: Global, bytes: &[u8]) -> Option<u64> {
+    let bytes = Vec::from_slice(alloc, bytes).ok()?;
+    let mut input = MemSource::new(bytes, READ, Vec::new(alloc));
+    let body = read_request(alloc, &mut input).ok()?;
+    Some(body.len() as u64)
+}
