@@ -1,6 +1,9 @@
 //! The works that are measured.
 
+ghost use Rattle.std.specs.Prelude.{◌<◌};
+
 use crate::inputs::Inputs;
+use ojp_decode::Reader;
 use ojp_encode::{length, write};
 use ojp_grammar::refusals::Want;
 use ojp_grammar::whole::whole;
@@ -21,6 +24,10 @@ pub enum Work {
     Length,
     /// Reads the delivery's spelling as a whole.
     Whole,
+    /// Reads it in pieces of 64 KiB.
+    Pieces,
+    /// Reads it byte by byte.
+    Bytes,
     /// Reads a request with a body in one part.
     Body,
     /// Reads a request with a body in chunks.
@@ -28,10 +35,12 @@ pub enum Work {
 }
 
 impl Work {
-    pub const ALL: [Work; 5] = [
+    pub const ALL: [Work; 7] = [
         Work::Write,
         Work::Length,
         Work::Whole,
+        Work::Pieces,
+        Work::Bytes,
         Work::Body,
         Work::Chunks,
     ];
@@ -41,6 +50,8 @@ impl Work {
             Work::Write => "write",
             Work::Length => "length",
             Work::Whole => "whole",
+            Work::Pieces => "pieces",
+            Work::Bytes => "bytes",
             Work::Body => "body",
             Work::Chunks => "chunks",
         }
@@ -52,6 +63,8 @@ impl Work {
             Work::Write => write_once(alloc, &inputs.delivery),
             Work::Length => length_once(&inputs.delivery),
             Work::Whole => whole_once(alloc, &inputs.spelled),
+            Work::Pieces => feed_once(alloc, &inputs.spelled, READ),
+            Work::Bytes => feed_once(alloc, &inputs.spelled, 1),
             Work::Body => read_once(alloc, &inputs.by_length),
             Work::Chunks => read_once(alloc, &inputs.in_chunks),
         }
@@ -77,6 +90,17 @@ fn length_once(document: &Doc) -> Option<u64> {
 
 fn whole_once(alloc: Global, bytes: &[u8]) -> Option<u64> {
     whole(alloc, Want::Delivery, bytes).ok()?;
+    Some(bytes.len() as u64)
+}
+
+fn feed_once(alloc: Global, bytes: &[u8], length: usize) -> Option<u64>
+    requires { 0 < length }
+{
+    let mut reader = Reader::new(alloc, Want::Delivery);
+    for piece in bytes.chunks(length) {
+        reader.feed(piece).ok()?;
+    }
+    reader.finish().ok()?;
     Some(bytes.len() as u64)
 }
 
