@@ -7,7 +7,7 @@ mod inputs;
 mod work;
 
 use crate::inputs::Inputs;
-use crate::work::Work;
+use crate::work::{Work, is_read_again};
 use std::env;
 use std::process::ExitCode;
 use std::time::CpuClock;
@@ -25,6 +25,8 @@ fn run(rt: &HostRuntime) -> Option<()> {
     let name = words.next()?;
     let rounds = words.next()?.parse::<u32>().ok()?;
     let inputs = Inputs::new(rt.alloc())?;
+    let is_same = is_read_again(rt.alloc(), &inputs)?;
+    println!(rt; "read again {is_same}").ok()?;
     for work in Work::ALL {
         if name.as_str() == "all" || name.as_str() == work.name() {
             measure(rt, work, rounds, &inputs)?;

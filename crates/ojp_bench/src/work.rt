@@ -96,12 +96,26 @@ fn whole_once(alloc: Global, bytes: &[u8]) -> Option<u64> {
 fn feed_once(alloc: Global, bytes: &[u8], length: usize) -> Option<u64>
     requires { 0 < length }
 {
+    read_in_pieces(alloc, bytes, length)?;
+    Some(bytes.len() as u64)
+}
+
+/// The delivery that the bytes spell, read in pieces of this length.
+fn read_in_pieces(alloc: Global, bytes: &[u8], length: usize) -> Option<Doc>
+    requires { 0 < length }
+{
     let mut reader = Reader::new(alloc, Want::Delivery);
     for piece in bytes.chunks(length) {
         reader.feed(piece).ok()?;
     }
-    reader.finish().ok()?;
-    Some(bytes.len() as u64)
+    reader.finish().ok()
+}
+
+/// Whether the spelling gives the delivery again, as a whole and byte by byte.
+pub fn is_read_again(alloc: Global, inputs: &Inputs) -> Option<bool> {
+    let at_once = whole(alloc, Want::Delivery, &inputs.spelled).ok()?;
+    let by_bytes = read_in_pieces(alloc, &inputs.spelled, 1)?;
+    Some(at_once == inputs.delivery && by_bytes == inputs.delivery)
 }
 
 fn read_once(alloc: Global, bytes: &[u8]) -> Option<u64> {
