@@ -13,7 +13,7 @@ use Rattle.ojp_grammar.specs.Documents.{items}
 use Rattle.ojp_grammar.specs.Places.{BeginsMarkup, EndsWhole, Stands, Expects, ExpectsField, StandsFor}
 use Rattle.ojp_grammar.specs.Steps.{step, Accepts, IsPlain, ArePlain}
 use Rattle.ojp_grammar.specs.Reached.{start_of}
-use Rattle.ojp_grammar.specs.Laws.{OnePlace, WrittenIsRead, MoreIsRefused, OnlyMoreIsRefused}
+use Rattle.ojp_grammar.specs.Laws.{OnePlace, MoreIsRefused, OnlyMoreIsRefused}
 use Rattle.ojp_grammar.proofs.FieldLaws.{bare}
 use Rattle.ojp_grammar.proofs.Plain.{begins_no_field, begins_small}
 use Rattle.ojp_grammar.proofs.Spelled.{text_opens, same_item}
@@ -22,7 +22,6 @@ use Rattle.ojp_grammar.proofs.Progress.{at_start}
 use Rattle.ojp_grammar.proofs.Refusal.{accepted_of, at_trailing}
 use Rattle.ojp_grammar.proofs.Unique.{at_accepted}
 use Rattle.ojp_grammar.proofs.Wanted.{start_means}
-use Rattle.ojp_grammar.proofs.Spellings.{one_document}
 
 -- ---- one front
 
@@ -162,10 +161,6 @@ one_refusal want bytes at place reason cause h g =
       h.place ∙ (ap (λ l. length (spell l)) same ∙ sym g.place),
       one_reason want h.front h.tail reason cause h.stands_for (subst Q (sym tails) (subst P (sym same) g.stands_for)),
     )
-
-pub written_document : WrittenIsRead
-written_document want doc other more after wanted too e =
-    let one = one_document want doc other more after wanted too e in (sym one.0, sym one.1)
 
 pub more_refused : MoreIsRefused
 more_refused want doc more wanted some =

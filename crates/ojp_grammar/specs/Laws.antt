@@ -20,12 +20,6 @@ OnePlace =
     (want : Want) (bytes : List ℕ) (at place : ℕ) (reason cause : Reason) → IsRefused want bytes at reason
     → IsRefused want bytes place cause → (at ≡ place) × (reason ≡ cause)
 
--- a document in front of the bytes of a wanted document is this document
-abbrev pub WrittenIsRead : Type 0
-WrittenIsRead =
-    (want : Want) (doc other : Doc) (more after : List ℕ) → IsWanted want doc → IsWanted want other
-    → spell (items doc) ++ more ≡ spell (items other) ++ after → (other ≡ doc) × (after ≡ more)
-
 -- bytes behind a wanted document are refused where it ends
 abbrev pub MoreIsRefused : Type 0
 MoreIsRefused =

@@ -1,6 +1,6 @@
 //! Laws of the documents.
 
-ghost use Rattle.ojp_grammar.specs.Laws.{OneSpelling, OnePlace, WrittenIsRead, MoreIsRefused, OnlyMoreIsRefused};
+ghost use Rattle.ojp_grammar.specs.Laws.{OneSpelling, OnePlace, MoreIsRefused, OnlyMoreIsRefused};
 
 /// Documents that are spelled at the front of the same bytes are one document, and the same bytes
 /// stand behind it: each document has one spelling, and no spelling begins another.
@@ -13,10 +13,9 @@ pub fn one_place()
     ensures { OnePlace }
 {}
 
-/// What was written is read as it was meant: no other document stands in front of these bytes, and
-/// they are refused where more bytes follow, at the document's end, and nowhere else.
+/// What was written is read: it is refused where more bytes follow, at the document's end, and nowhere
+/// else. By `one_spelling` no other document stands in front of these bytes.
 pub fn written_is_read()
-    ensures document { WrittenIsRead }
     ensures more { MoreIsRefused }
     ensures only { OnlyMoreIsRefused }
 {}
