@@ -1,34 +1,45 @@
 -- How `plan` ends where the file, the request and the answer were good.
-use Rattle.std.proofs.Common.{ℕ, Result, Ok, Err, OnOk, IfErr}
+use Rattle.std.proofs.Common.{ℕ, Option, Result, Ok, Err, OnOk, IfErr, refl}
 use Rattle.std.specs.Io.KnownBytes.{Appends}
 use Rattle.ojp_values.specs.Texts.{Text}
-use Rattle.ojp_values.specs.declared.asks.Ask.{Ask}
-use Rattle.ojp_values.specs.declared.documents.Doc.TheVariants as docs
-use Rattle.ojp_values.specs.declared.replies.Delivery.{Delivery}
-use Rattle.ojp_timetable.specs.Tables.{Timetable}
-use Rattle.ojp_grammar.specs.Items.{spell}
-use Rattle.ojp_grammar.specs.Documents.{items}
-use Rattle.ojp_cli.specs.Plans.{Around, Ends, IsFileOf, IsRequestOf, PlanAnswers, StopsFor, WriteStops}
+use Rattle.ojp_cli.specs.Plans.{Around, delivery_bytes, Due, Ends, StopsFor, WriteStops}
+use Rattle.ojp_cli.specs.Stops.{LeavesOutput}
 use Rattle.ojp_cli.specs.declared.stops.Stop.{Stop}
 use Rattle.ojp_cli.specs.declared.stops.Stop.TheVariants.{Document, Words, File, FileTooLong, Input, Output, Memory, Table}
 
-unwritten_stops : (a : Around) (file : Text) (table : Timetable) (ask : Ask) (stop : Stop) → IsFileOf a.contents file table → IsRequestOf a.left a.left_now a.ended_now ask → WriteStops a.output_faults a.output_faults_now stop → StopsFor a file stop
-unwritten_stops a file table ask (Document at reason) of_file of_input stops = absurd stops
-unwritten_stops a file table ask Words of_file of_input stops = stops
-unwritten_stops a file table ask File of_file of_input stops = absurd stops
-unwritten_stops a file table ask FileTooLong of_file of_input stops = absurd stops
-unwritten_stops a file table ask Input of_file of_input stops = absurd stops
-unwritten_stops a file table ask Output of_file of_input stops = ((table, of_file), ((ask, of_input), stops))
-unwritten_stops a file table ask Memory of_file of_input stops = tt
-unwritten_stops a file table ask (Table line reason) of_file of_input stops = absurd stops
+unwritten_stops :
+    (a : Around) (file : Text) (due : Due a.contents file a.left a.left_now a.ended_now) (stop : Stop)
+    → WriteStops a.written a.written_now a.output_faults a.output_faults_now (delivery_bytes due.delivery) stop → StopsFor a file stop
+unwritten_stops a file due (Document at reason) stops = absurd stops
+unwritten_stops a file due Words stops = stops
+unwritten_stops a file due File stops = absurd stops
+unwritten_stops a file due FileTooLong stops = absurd stops
+unwritten_stops a file due Input stops = absurd stops
+unwritten_stops a file due Output stops = (record { due = due; gained = stops.0 }, stops.1)
+unwritten_stops a file due Memory stops = tt
+unwritten_stops a file due (Table line reason) stops = absurd stops
 
 pub written_ends :
-    {A : Type 0} (a : Around) (file : Text) (table : Timetable) (ask : Ask) (delivery : Delivery) (result : Result A Stop)
-    → IsFileOf a.contents file table → IsRequestOf a.left a.left_now a.ended_now ask → PlanAnswers table ask delivery
-    → OnOk result (Appends a.written a.written_now (spell (items (docs.Delivery delivery))))
-    → IfErr result (λ stop. WriteStops a.output_faults a.output_faults_now stop)
+    {A : Type 0} (a : Around) (file : Text) (due : Due a.contents file a.left a.left_now a.ended_now) (result : Result A Stop)
+    → OnOk result (Appends a.written a.written_now (delivery_bytes due.delivery))
+    → IfErr result (λ stop. WriteStops a.written a.written_now a.output_faults a.output_faults_now (delivery_bytes due.delivery) stop)
     → Ends a file result
-written_ends a file table ask delivery (Ok done) of_file of_input answers gained stops =
-    record { table = table; of_file = of_file; ask = ask; of_input = of_input; delivery = delivery; answers = answers; gained = gained }
-written_ends a file table ask delivery (Err stop) of_file of_input answers gained stops =
-    unwritten_stops a file table ask stop of_file of_input stops
+written_ends a file due (Ok done) gained stops = record { due = due; gained = gained }
+written_ends a file due (Err stop) gained stops = unwritten_stops a file due stop stops
+
+unwritten_leaves : (old new : Option Text) (faults faults_now : ℕ) (bytes : Text) (stop : Stop) → WriteStops old new faults faults_now bytes stop → LeavesOutput old new stop
+unwritten_leaves old new faults faults_now bytes (Document at reason) stops = absurd stops
+unwritten_leaves old new faults faults_now bytes Words stops = absurd stops
+unwritten_leaves old new faults faults_now bytes File stops = absurd stops
+unwritten_leaves old new faults faults_now bytes FileTooLong stops = absurd stops
+unwritten_leaves old new faults faults_now bytes Input stops = absurd stops
+unwritten_leaves old new faults faults_now bytes Output stops = λ other. absurd (other refl)
+unwritten_leaves old new faults faults_now bytes Memory stops = λ other. stops
+unwritten_leaves old new faults faults_now bytes (Table line reason) stops = absurd stops
+
+-- a delivery that was not written left the output as it was, unless a write failed
+pub leaves_unwritten :
+    {A : Type 0} (old new : Option Text) (faults faults_now : ℕ) (bytes : Text) (result : Result A Stop)
+    → IfErr result (λ stop. WriteStops old new faults faults_now bytes stop) → IfErr result (λ stop. LeavesOutput old new stop)
+leaves_unwritten old new faults faults_now bytes (Ok done) stops = tt
+leaves_unwritten old new faults faults_now bytes (Err stop) stops = unwritten_leaves old new faults faults_now bytes stop stops

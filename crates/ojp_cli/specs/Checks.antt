@@ -9,6 +9,7 @@ use Rattle.ojp_values.specs.declared.replies.Delivery.TheVariants as deliveries
 use Rattle.ojp_values.specs.declared.documents.Doc.{Doc}
 use Rattle.ojp_values.specs.declared.documents.Doc.TheVariants as docs
 use Rattle.ojp_outside.specs.Causes.{Rose}
+use Rattle.ojp_outside.specs.Known.{AppendsPrefix}
 use Rattle.ojp_grammar.specs.Documents.{IsWanted, Spells}
 use Rattle.ojp_grammar.specs.Places.{IsRefused}
 use Rattle.ojp_grammar.specs.declared.refusals.Reason.{Reason}
@@ -49,6 +50,12 @@ pub record Checked (left left_now : Option Text) (ended : Bool) (written written
   pub of_input : IsDocumentOf left left_now ended doc
   pub gained : Appends written written_now (line_of (element_name doc))
 
+-- the output gained a front of that line
+pub record CheckedInPart (left left_now : Option Text) (ended : Bool) (written written_now : Option Text) : Type 0 where
+  pub doc : Doc
+  pub of_input : IsDocumentOf left left_now ended doc
+  pub gained : AppendsPrefix written written_now (line_of (element_name doc))
+
 -- no document is what the input had left, where it tells its bytes: at this place, for this reason
 abbrev pub IsNoDocument : Option Text → ℕ → Reason → Type 0
 IsNoDocument left at reason = IfSome left (λ bytes. IsRefused Either bytes at reason)
@@ -83,7 +90,7 @@ StopsFor a Words = ⊥
 StopsFor a File = ⊥
 StopsFor a FileTooLong = ⊥
 StopsFor a Input = Rose a.input_faults a.input_faults_now
-StopsFor a Output = ((doc : Doc) × IsDocumentOf a.left a.left_now a.ended_now doc) × Rose a.output_faults a.output_faults_now
+StopsFor a Output = CheckedInPart a.left a.left_now a.ended_now a.written a.written_now × Rose a.output_faults a.output_faults_now
 StopsFor a Memory = Unit {0}
 StopsFor a (Table line reason) = ⊥
 

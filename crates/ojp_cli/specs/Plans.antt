@@ -1,7 +1,7 @@
 -- What `plan` does with a timetable file and a request.
 use Rattle.std.specs.Prelude.{◌≡◌, ℕ, ◌<◌, ◌≤◌, IsTrue, Bool, List, ◌⊎◌, length, Option, Some, None, IfSome, Result, Ok, Err}
 use Rattle.std.specs.Option.{ForSome}
-use Rattle.std.specs.Io.KnownBytes.{Appends, Consumes, IsAtEnd}
+use Rattle.std.specs.Io.KnownBytes.{Appends, Consumes, IsAtEnd, Keeps}
 use Rattle.ojp_values.specs.Texts.{Text}
 use Rattle.ojp_values.specs.declared.asks.Ask.{Ask}
 use Rattle.ojp_values.specs.declared.asks.Ask.TheVariants as asks
@@ -14,6 +14,7 @@ use Rattle.ojp_values.specs.declared.replies.PointsReply.TheVariants as points_r
 use Rattle.ojp_values.specs.declared.replies.Fault.TheVariants.{NotServed}
 use Rattle.ojp_outside.specs.Causes.{Rose, Rests}
 use Rattle.ojp_outside.specs.Files.{IsContents}
+use Rattle.ojp_outside.specs.Known.{AppendsPrefix}
 use Rattle.ojp_timetable.specs.Tables.{Timetable}
 use Rattle.ojp_timetable.specs.Answers.{TripAnswered}
 use Rattle.ojp_timetable.specs.TableText.{IsText, IsRefused as IsTableRefused}
@@ -57,15 +58,28 @@ pub record IsRequestOf (old new : Option Text) (ended : Bool) (ask : Ask) : Type
   pub spells : Spells (docs.Ask ask) bytes
   pub well : IsWell (docs.Ask ask)
 
--- the output gained just the spelling of a delivery that answers the request by the file's timetable
-pub record Planned (contents : Contents) (file : Text) (left left_now : Option Text) (ended : Bool) (written written_now : Option Text) : Type 0 where
+-- a delivery that is due: it answers the request that the input had by the timetable of the file
+pub record Due (contents : Contents) (file : Text) (left left_now : Option Text) (ended : Bool) : Type 0 where
   pub table : Timetable
   pub of_file : IsFileOf contents file table
   pub ask : Ask
   pub of_input : IsRequestOf left left_now ended ask
   pub delivery : Delivery
   pub answers : PlanAnswers table ask delivery
-  pub gained : Appends written written_now (spell (items (docs.Delivery delivery)))
+
+-- the bytes of a delivery
+abbrev pub delivery_bytes : Delivery → Text
+delivery_bytes delivery = spell (items (docs.Delivery delivery))
+
+-- the output gained just the spelling of a delivery that is due
+pub record Planned (contents : Contents) (file : Text) (left left_now : Option Text) (ended : Bool) (written written_now : Option Text) : Type 0 where
+  pub due : Due contents file left left_now ended
+  pub gained : Appends written written_now (delivery_bytes due.delivery)
+
+-- the output gained a front of the spelling of a delivery that is due
+pub record PlannedInPart (contents : Contents) (file : Text) (left left_now : Option Text) (ended : Bool) (written written_now : Option Text) : Type 0 where
+  pub due : Due contents file left left_now ended
+  pub gained : AppendsPrefix written written_now (delivery_bytes due.delivery)
 
 -- no request is what the input had left, where it tells its bytes: at this place, for this reason
 abbrev pub IsNoRequest : Option Text → ℕ → Reason → Type 0
@@ -128,16 +142,16 @@ RequestStops left faults faults_now FileTooLong = ⊥
 RequestStops left faults faults_now Output = ⊥
 RequestStops left faults faults_now (Table line reason) = ⊥
 
--- why a delivery was not written
-abbrev pub WriteStops : ℕ → ℕ → Stop → Type 0
-WriteStops faults faults_now Output = Rose faults faults_now
-WriteStops faults faults_now Memory = Unit {0}
-WriteStops faults faults_now Words = ⊥
-WriteStops faults faults_now File = ⊥
-WriteStops faults faults_now FileTooLong = ⊥
-WriteStops faults faults_now Input = ⊥
-WriteStops faults faults_now (Document at reason) = ⊥
-WriteStops faults faults_now (Table line reason) = ⊥
+-- why a delivery of these bytes was not written: a write failed behind a front of it, or memory ran out before the first write
+abbrev pub WriteStops : Option Text → Option Text → ℕ → ℕ → Text → Stop → Type 0
+WriteStops written written_now faults faults_now bytes Output = AppendsPrefix written written_now bytes × Rose faults faults_now
+WriteStops written written_now faults faults_now bytes Memory = Keeps written written_now
+WriteStops written written_now faults faults_now bytes Words = ⊥
+WriteStops written written_now faults faults_now bytes File = ⊥
+WriteStops written written_now faults faults_now bytes FileTooLong = ⊥
+WriteStops written written_now faults faults_now bytes Input = ⊥
+WriteStops written written_now faults faults_now bytes (Document at reason) = ⊥
+WriteStops written written_now faults faults_now bytes (Table line reason) = ⊥
 
 -- the file was read and accepted
 abbrev pub IsAccepted : Contents → Text → Type 0
@@ -166,7 +180,7 @@ StopsFor a file Words = ⊥
 StopsFor a file File = FileFailed a.file_faults a.file_faults_now a.failed_name file
 StopsFor a file FileTooLong = IsTooLong a.contents file
 StopsFor a file Input = IsAccepted a.contents file × Rose a.input_faults a.input_faults_now
-StopsFor a file Output = IsAccepted a.contents file × (((ask : Ask) × IsRequestOf a.left a.left_now a.ended_now ask) × Rose a.output_faults a.output_faults_now)
+StopsFor a file Output = PlannedInPart a.contents file a.left a.left_now a.ended_now a.written a.written_now × Rose a.output_faults a.output_faults_now
 StopsFor a file Memory = Unit {0}
 StopsFor a file (Table line reason) = IsRefusedFile a.contents file line reason
 

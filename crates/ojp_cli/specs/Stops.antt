@@ -1,7 +1,7 @@
 -- Why a command stops: its status and its text on standard error.
-use Rattle.std.specs.Prelude.{ℕ, List, [], ◌∷◌, ◌++◌, codes, Option}
+use Rattle.std.specs.Prelude.{◌≢◌, ℕ, List, [], ◌∷◌, ◌++◌, codes, Option}
 use Rattle.std.specs.Fmt.{decimal}
-use Rattle.std.specs.Io.KnownBytes.{Appends}
+use Rattle.std.specs.Io.KnownBytes.{Appends, Keeps}
 use Rattle.ojp_values.specs.Texts.{Text}
 use Rattle.ojp_outside.specs.Causes.{Rests}
 use Rattle.ojp_cli.specs.Reasons.{document_words, table_words}
@@ -45,3 +45,7 @@ text_of file (Table line reason) = table_text file line (table_words reason)
 -- standard error gained just the line, unless a write to it failed
 abbrev pub Tells : Option Text → Option Text → ℕ → ℕ → Text → Type 0
 Tells old new faults_before faults_now text = Rests faults_before faults_now → Appends old new (line_of text)
+
+-- the output is as it was, unless a write to it failed
+abbrev pub LeavesOutput : Option Text → Option Text → Stop → Type 0
+LeavesOutput old new stop = stop ≢ Output → Keeps old new

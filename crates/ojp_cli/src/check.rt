@@ -2,6 +2,8 @@
 
 ghost use Rattle.std.specs.Prelude.{◌≡◌, ◌++◌, [], ◌∷◌, IfOk, IfErr};
 ghost use Rattle.std.specs.Io.KnownBytes.{Appends};
+ghost use Rattle.ojp_outside.specs.Known.{LosesPrefix};
+ghost use Rattle.ojp_cli.specs.Stops.{LeavesOutput};
 ghost use Rattle.ojp_cli.specs.Checks.{ask_name, delivery_name, element_name, Ends, IsDocumentOf, ReadStops};
 
 use crate::stops::Stop;
@@ -17,7 +19,7 @@ pub(crate) fn check<I: Source, O: Sink>(
     input: &mut I,
     output: &mut O,
 ) -> Result<(), Stop>
-    ensures { Ends (record {
+    ensures ends { Ends (record {
       left = I.left input.old;
       left_now = I.left input.new;
       ended_now = I.ended input.new;
@@ -28,6 +30,8 @@ pub(crate) fn check<I: Source, O: Sink>(
       output_faults = O.faults output.old;
       output_faults_now = O.faults output.new;
     }) result }
+    ensures untouched { IfErr result (LeavesOutput (O.written output.old) (O.written output.new)) }
+    ensures taken { LosesPrefix (I.left input.old) (I.left input.new) }
 {
     let document = read_document(alloc, input)?;
     let name = name_of(&document);
@@ -40,6 +44,7 @@ pub(crate) fn check<I: Source, O: Sink>(
 fn read_document<I: Source>(alloc: Global, input: &mut I) -> Result<Doc, Stop>
     ensures ok { IfOk result (λ doc. IsDocumentOf (I.left input.old) (I.left input.new) (I.ended input.new) doc) }
     ensures err { IfErr result (λ stop. ReadStops (I.left input.old) (I.faults input.old) (I.faults input.new) stop) }
+    ensures taken { LosesPrefix (I.left input.old) (I.left input.new) }
 {
     let bytes = match read_all(alloc, input, usize::MAX) {
         Ok(bytes) => bytes,

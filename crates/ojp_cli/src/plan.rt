@@ -2,12 +2,14 @@
 
 ghost use Rattle.std.specs.Prelude.{◌≡◌, ◌≤◌, IfOk, IfErr, OnOk, OnErr};
 ghost use Rattle.std.specs.Io.KnownBytes.{Appends, Keeps};
+ghost use Rattle.ojp_outside.specs.Known.{LosesPrefix};
 ghost use Rattle.ojp_values.specs.Limits.{IsWellDelivery};
 ghost use Rattle.ojp_timetable.specs.Answers.{TripAnswered};
 ghost use Rattle.ojp_grammar.specs.Documents.{items};
 ghost use Rattle.ojp_grammar.specs.Items.{spell};
 ghost use Rattle.ojp_values.specs.declared.documents.Doc.TheVariants as docs;
-ghost use Rattle.ojp_cli.specs.Plans.{Ends, IsFileOf, IsRequestOf, PlanAnswers, TableStops, RequestStops, WriteStops};
+ghost use Rattle.ojp_cli.specs.Stops.{LeavesOutput};
+ghost use Rattle.ojp_cli.specs.Plans.{delivery_bytes, Ends, IsFileOf, IsRequestOf, PlanAnswers, TableStops, RequestStops, WriteStops};
 
 use crate::stops::Stop;
 use ojp_encode::write;
@@ -34,7 +36,7 @@ pub(crate) fn plan<I: Source, O: Sink, F: Store>(
     output: &mut O,
     store: &mut F,
 ) -> Result<(), Stop>
-    ensures { Ends (record {
+    ensures ends { Ends (record {
       contents = F.contents store.old;
       failed_name = F.failed_name store.new;
       file_faults = F.faults store.old;
@@ -49,6 +51,8 @@ pub(crate) fn plan<I: Source, O: Sink, F: Store>(
       output_faults = O.faults output.old;
       output_faults_now = O.faults output.new;
     }) file.now result }
+    ensures untouched { IfErr result (LeavesOutput (O.written output.old) (O.written output.new)) }
+    ensures taken { LosesPrefix (I.left input.old) (I.left input.new) }
 {
     let table = read_table(alloc, file, store)?;
     let ask = read_request(alloc, input)?;
@@ -76,6 +80,7 @@ fn read_table<F: Store>(alloc: Global, file: &str, store: &mut F) -> Result<Time
 fn read_request<I: Source>(alloc: Global, input: &mut I) -> Result<Ask, Stop>
     ensures ok { IfOk result (λ ask. IsRequestOf (I.left input.old) (I.left input.new) (I.ended input.new) ask) }
     ensures err { IfErr result (λ stop. RequestStops (I.left input.old) (I.faults input.old) (I.faults input.new) stop) }
+    ensures taken { LosesPrefix (I.left input.old) (I.left input.new) }
 {
     let bytes = match read_all(alloc, input, usize::MAX) {
         Ok(bytes) => bytes,
@@ -128,8 +133,8 @@ fn answer_by_scan(alloc: Global, table: &Timetable, ask: &TripAsk) -> Result<Del
 /// Spells the delivery in memory and writes it at once.
 fn write_delivery<O: Sink>(alloc: Global, delivery: Delivery, output: &mut O) -> Result<(), Stop>
     requires { IsWellDelivery delivery }
-    ensures ok { OnOk result (Appends (O.written output.old) (O.written output.new) (spell (items (docs.Delivery delivery)))) }
-    ensures err { IfErr result (λ stop. WriteStops (O.faults output.old) (O.faults output.new) stop) }
+    ensures ok { OnOk result (Appends (O.written output.old) (O.written output.new) (delivery_bytes delivery)) }
+    ensures err { IfErr result (WriteStops (O.written output.old) (O.written output.new) (O.faults output.old) (O.faults output.new) (delivery_bytes delivery)) }
 {
     let document = Doc::Delivery(delivery);
     let mut spelled = MemSink::new(alloc, Vec::new(alloc));

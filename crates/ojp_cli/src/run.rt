@@ -5,6 +5,7 @@ ghost use Rattle.std.specs.Io.KnownBytes.{Keeps};
 ghost use Rattle.ojp_values.specs.declared.asks.Ask.{Ask};
 ghost use Rattle.ojp_values.specs.declared.documents.Doc.{Doc};
 ghost use Rattle.ojp_outside.specs.Causes.{Rose, Rests};
+ghost use Rattle.ojp_outside.specs.Known.{LosesPrefix};
 ghost use Rattle.ojp_grammar.specs.Documents.{IsWell, IsWanted, Spells};
 ghost use Rattle.ojp_grammar.specs.Places.{IsRefused};
 ghost use Rattle.ojp_grammar.specs.declared.refusals.Want.{Want};
@@ -15,8 +16,8 @@ ghost use Rattle.ojp_cli.specs.Reasons.{document_words, table_words};
 ghost use Rattle.ojp_timetable.specs.declared.lines.TableReason.{TableReason};
 ghost use Rattle.ojp_cli.specs.Words.{named_by, Plan, Check, IfPlan, IfCheck};
 ghost use Rattle.ojp_cli.specs.Stops.{Tells, document_text, table_text};
-ghost use Rattle.ojp_cli.specs.Plans.{Planned, IsAccepted, IsNoRequest, IsRequestOf, IsRefusedFile, IsTooLong, IsReadable, IsGood, IsHeard, FileFailed, file_limit};
-ghost use Rattle.ojp_cli.specs.Checks.{Checked, IsNoDocument, IsDocumentOf};
+ghost use Rattle.ojp_cli.specs.Plans.{Planned, PlannedInPart, IsAccepted, IsNoRequest, IsRefusedFile, IsTooLong, IsReadable, IsGood, IsHeard, FileFailed, file_limit};
+ghost use Rattle.ojp_cli.specs.Checks.{Checked, CheckedInPart, IsNoDocument};
 
 use crate::check::check;
 use crate::plan::plan;
@@ -72,14 +73,13 @@ pub fn run_here<I: Source, O: Sink, E: Sink, F: Store>(
         (Rose (I.faults input.old) (I.faults input.new)
         × Tells (E.written faults.old) (E.written faults.new) (E.faults faults.old) (E.faults faults.new) (codes "input")) }
 
-    // 4: the steps before were passed, and a write of the output failed.
+    // 4: a write of the output failed, and the output gained a front of what the command writes.
     ensures unwritten { result ≡ 4 → Rose (O.faults output.old) (O.faults output.new)
         × Tells (E.written faults.old) (E.written faults.new) (E.faults faults.old) (E.faults faults.new) (codes "output") }
-    ensures planned_before { result ≡ 4 → IfPlan (named_by words.now) (λ file.
-        IsAccepted (F.contents store.old) file
-        × ((ask : Ask) × IsRequestOf (I.left input.old) (I.left input.new) (I.ended input.new) ask)) }
-    ensures checked_before { result ≡ 4 → IfCheck (named_by words.now)
-        ((doc : Doc) × IsDocumentOf (I.left input.old) (I.left input.new) (I.ended input.new) doc) }
+    ensures planned_in_part { result ≡ 4 → IfPlan (named_by words.now) (λ file.
+        PlannedInPart (F.contents store.old) file (I.left input.old) (I.left input.new) (I.ended input.new) (O.written output.old) (O.written output.new)) }
+    ensures checked_in_part { result ≡ 4 → IfCheck (named_by words.now)
+        (CheckedInPart (I.left input.old) (I.left input.new) (I.ended input.new) (O.written output.old) (O.written output.new)) }
 
     // 5: memory ran out.
     ensures memory { result ≡ 5 → Tells (E.written faults.old) (E.written faults.new) (E.faults faults.old) (E.faults faults.new) (codes "no memory") }
@@ -89,6 +89,10 @@ pub fn run_here<I: Source, O: Sink, E: Sink, F: Store>(
         (line : ℕ) × (reason : TableReason) × IsRefusedFile (F.contents store.old) file line reason
         × Tells (E.written faults.old) (E.written faults.new) (E.faults faults.old) (E.faults faults.new) (table_text file line (table_words reason))) }
     ensures no_file { result ≡ 6 → IfCheck (named_by words.now) ⊥ }
+
+    // At every other status the output is as it was. At each, only a front of the input was taken.
+    ensures untouched { result ≢ 0 → result ≢ 4 → Keeps (O.written output.old) (O.written output.new) }
+    ensures taken { LosesPrefix (I.left input.old) (I.left input.new) }
 
     // Where no count rose, a command ends with 0, 1, 5 or 6, or with 3 for a file that has too many bytes.
     ensures at_rest { named_by words.now ≢ None

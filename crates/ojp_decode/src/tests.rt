@@ -1,22 +1,45 @@
 //! Documents in pieces of one byte, of two, of three and of 512, against bytes that were written by hand.
-ghost use Rattle.std.specs.Prelude.{◌<◌};
+ghost use Rattle.std.specs.Prelude.{◌≡◌, ◌<◌, length};
 
 use crate::{Fed, ReadRefused, Reader};
 use ojp_grammar::refusals::{Reason, Refused, Want};
 use ojp_values::asks::Ask;
 use ojp_values::documents::Doc;
 use ojp_values::kinds::Kind;
-use std::alloc::Global;
+use ojp_values::replies::{Delivery, MultiReply};
+use std::alloc::{AllocError, Global};
 use std::test::Fail;
 
 /// The request for a trip from AA:a to AA:b.
-fn request() -> &'static [u8] {
+fn request() -> &'static [u8]
+    ensures { length result.now ≡ 469 }
+{
     b"<?xml version=\"1.0\" encoding=\"UTF-8\"?><OJP xmlns=\"http://www.siri.org.uk/siri\" xmlns:ojp=\"http://www.vdv.de/ojp\" version=\"1.0\"><OJPRequest><ServiceRequest><ojp:OJPTripRequest><ojp:Origin><ojp:PlaceRef><StopPointRef>AA:a</StopPointRef></ojp:PlaceRef><ojp:DepArrTime>2024-05-06T08:00:00Z</ojp:DepArrTime></ojp:Origin><ojp:Destination><ojp:PlaceRef><StopPointRef>AA:b</StopPointRef></ojp:PlaceRef></ojp:Destination></ojp:OJPTripRequest></ServiceRequest></OJPRequest></OJP>"
 }
 
 /// The delivery of a trip of one leg.
-fn delivery() -> &'static [u8] {
+fn delivery() -> &'static [u8]
+    ensures { length result.now ≡ 1_034 }
+{
     b"<?xml version=\"1.0\" encoding=\"UTF-8\"?><OJP xmlns=\"http://www.siri.org.uk/siri\" xmlns:ojp=\"http://www.vdv.de/ojp\" version=\"1.0\"><OJPResponse><ServiceDelivery><ojp:OJPTripDelivery><ojp:TripResult><ojp:Trip><ojp:Duration>PT600S</ojp:Duration><ojp:StartTime>2024-05-06T08:10:00Z</ojp:StartTime><ojp:EndTime>2024-05-06T08:20:00Z</ojp:EndTime><ojp:Transfers>0</ojp:Transfers><ojp:TripLeg><ojp:TimedLeg><ojp:LegBoard><StopPointRef>AA:a</StopPointRef><ojp:StopPointName>Alder &amp; Beech</ojp:StopPointName><ojp:TimetabledTime>2024-05-06T08:10:00Z</ojp:TimetabledTime></ojp:LegBoard><ojp:LegAlight><StopPointRef>AA:b</StopPointRef><ojp:StopPointName>Beech</ojp:StopPointName><ojp:TimetabledTime>2024-05-06T08:20:00Z</ojp:TimetabledTime></ojp:LegAlight><ojp:Service><ojp:OperatingDayRef>2024-05-06</ojp:OperatingDayRef><ojp:JourneyRef>J1</ojp:JourneyRef><LineRef>L5</LineRef><ojp:OperatorRef>AA</ojp:OperatorRef></ojp:Service></ojp:TimedLeg></ojp:TripLeg></ojp:Trip></ojp:TripResult></ojp:OJPTripDelivery></ServiceDelivery></OJPResponse></OJP>"
+}
+
+/// A delivery of 256 results, each the trip of the delivery above.
+fn trips(alloc: Global) -> Result<Vec<u8>, AllocError> {
+    let (front, _) = delivery().split_at(157);
+    let (trip, _) = delivery().split_at(957);
+    let (_, trip) = trip.split_at(194);
+    let mut text = Vec::from_slice(alloc, front)?;
+    text.extend_from_slice(b"<ojp:OJPMultiPointTripDelivery>")?;
+    for _ in 0..256 {
+        text.extend_from_slice(b"<ojp:MultiPointTripResult>")?;
+        text.extend_from_slice(trip)?;
+        text.extend_from_slice(b"</ojp:MultiPointTripResult>")?;
+    }
+    text.extend_from_slice(
+        b"</ojp:OJPMultiPointTripDelivery></ServiceDelivery></OJPResponse></OJP>",
+    )?;
+    Ok(text)
 }
 
 /// What comes of the bytes in pieces of this length.
@@ -50,13 +73,28 @@ fn documents_are_read(rt: HostRuntime) -> Result<(), Fail> {
     let alloc = rt.alloc();
     for length in [1, 2, 3, 512] {
         let asked = outcome(alloc, Want::Request, request(), length);
-        let Ok(Doc::Ask(Ask::Trip(ask))) = asked else {
-            return Err(Fail::new("no trip request"));
-        };
-        assert_eq!(rt; ask.origin.text(), b"AA:a".as_slice());
-        assert_eq!(rt; ask.target.text(), b"AA:b".as_slice());
+        match &asked {
+            Ok(Doc::Ask(Ask::Trip(ask))) => {
+                assert_eq!(rt; ask.origin.text(), b"AA:a".as_slice());
+                assert_eq!(rt; ask.target.text(), b"AA:b".as_slice());
+            }
+            _ => return Err(Fail::new("no trip request")),
+        }
         let answered = outcome(alloc, Want::Delivery, delivery(), length);
-        assert!(rt; matches!(answered, Ok(Doc::Delivery(_))));
+        assert!(rt; matches!(&answered, Ok(Doc::Delivery(_))));
+    }
+    Ok(())
+}
+
+#[test]
+fn many_results_are_read_byte_by_byte(rt: HostRuntime) -> Result<(), Fail> {
+    let alloc = rt.alloc();
+    let text = trips(alloc)?;
+    match outcome(alloc, Want::Delivery, text.as_slice(), 1) {
+        Ok(Doc::Delivery(Delivery::Multi(MultiReply::Results(results)))) => {
+            assert_eq!(rt; results.len(), 256);
+        }
+        _ => return Err(Fail::new("no results")),
     }
     Ok(())
 }

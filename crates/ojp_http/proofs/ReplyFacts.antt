@@ -1,5 +1,5 @@
 -- A reply in pieces.
-use Rattle.std.proofs.Common.{◌≡◌, ℕ, Bool, true, false, List, [], ◌∷◌, ◌++◌, length, take, refl, sym, ap, ◌∙◌, append_assoc, append-nil, subst, Result, Ok, Err, ◌≤◌}
+use Rattle.std.proofs.Common.{◌≡◌, ℕ, true, false, List, [], ◌∷◌, ◌++◌, length, take, refl, sym, ap, ◌∙◌, append_assoc, append-nil, subst, Result, Ok, Err, ◌≤◌}
 use Rattle.std.specs.Prelude.{◌≢◌, ◌==◌}
 use Rattle.ojp_http.specs.declared.fed.ReplyFed.{ReplyFed}
 use Rattle.ojp_http.specs.declared.fed.ReplyFed.TheVariants as fed
@@ -12,11 +12,11 @@ use Rattle.ojp_http.specs.declared.machine.Place.TheVariants as places
 use Rattle.ojp_http.specs.declared.machine.Framing.{Framing}
 use Rattle.ojp_http.specs.declared.machine.Stop.{Stop}
 use Rattle.ojp_http.specs.declared.machine.Stop.TheVariants.{Refused, NoMemory}
-use Rattle.ojp_http.specs.Verdicts.{Verdict, whole, refused, cut, after}
+use Rattle.ojp_http.specs.Verdicts.{Verdict, whole, refused, after}
 use Rattle.ojp_http.specs.Bodies.{Replies}
 use Rattle.ojp_http.specs.Asking.{HttpReply}
 use Rattle.ojp_http.specs.Machine.{ReadsAt, Reads, IsOpenAt, IsNewReply, Took, Feeds, is_whole_at}
-use Rattle.ojp_http.specs.Replying.{ReplyView, HasTaken, HasFed, ReadsOn, Answers, IsRefused, BeginsNoReply, refusal_at}
+use Rattle.ojp_http.specs.Replying.{ReplyView, HasTaken, HasFed, ReadsOn, Answers, BeginsNoReply, refusal_at}
 use Rattle.ojp_http.specs.declared.refusal.Refusal.{Refusal}
 use Rattle.ojp_http.proofs.WholeMessages.{replies_only, beginning_law}
 use Rattle.ojp_http.proofs.MachineFacts.{after-nil}

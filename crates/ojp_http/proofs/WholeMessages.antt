@@ -1,5 +1,5 @@
 -- Whole messages: what their bytes allow beside them, and that bytes behind one are its rest.
-use Rattle.std.proofs.Common.{◌≡◌, ℕ, ◌<◌, ◌≤◌, ◌⊎◌, List, [], ◌∷◌, ◌++◌, length, refl, sym, ap, ◌∙◌, arith, append_assoc, append-nil, subst, inl, inr, suc, zero, Option, Some, None, Result, Ok, Err}
+use Rattle.std.proofs.Common.{◌≡◌, ℕ, List, [], ◌++◌, refl, sym, ap, ◌∙◌, append_assoc, subst, inl, inr, suc, zero, Option, Some, None, Result, Err}
 use Rattle.httparse.specs.Grammar.{Field, print_chunk_line, chunk_size, ResponseHead, ReadsResponse, RequestHead, ReadsRequest}
 use Rattle.httparse.proofs.GrammarLemmas.{request_unique, response_unique}
 use Rattle.ojp_http.specs.declared.refusal.Refusal.{Refusal}
@@ -9,14 +9,14 @@ use Rattle.ojp_http.specs.declared.refusal.HttpRefusal.TheVariants as answered
 use Rattle.ojp_http.specs.declared.refusal.Frame.{Frame}
 use Rattle.ojp_http.specs.declared.refusal.Frame.TheVariants.{Counted, Chunked, Refused}
 use Rattle.ojp_http.specs.Verdicts.{Verdict, whole, refused, cut, after}
-use Rattle.ojp_http.specs.Heads.{HasHead, HasNoHead, Begins, found as head_found, malformed as head_malformed, full as head_full, begun as head_begun}
-use Rattle.ojp_http.specs.Bodies.{Ends, Takes, taken as takes_all, short as takes_short, EndsChunk, ended as chunk_ended, begun as chunk_begun, other as chunk_other, Chunks, Trailer, ReadsTrailer, Sized, last as size_last, chunk as size_chunk, over as size_over, room_after, Frames, Replies, Asks, ReadsLine, line as line_reads, wrong as line_wrong, long as line_long, unended as line_unended, ReadsLines}
+use Rattle.ojp_http.specs.Heads.{Begins, found as head_found, malformed as head_malformed, full as head_full, begun as head_begun}
+use Rattle.ojp_http.specs.Bodies.{Ends, Takes, taken as takes_all, short as takes_short, EndsChunk, ended as chunk_ended, begun as chunk_begun, other as chunk_other, Trailer, ReadsTrailer, Sized, last as size_last, chunk as size_chunk, over as size_over, room_after, Frames, Replies, Asks, ReadsLine, line as line_reads, wrong as line_wrong, long as line_long, unended as line_unended, ReadsLines}
 use Rattle.ojp_http.specs.Fields.{reply_frame, ask_frame}
-use Rattle.ojp_http.specs.Asking.{Tells, HttpAsk, HttpReply, http_refusal}
-use Rattle.ojp_http.specs.Laws.{HasBadTrailer, AreTwo, AreAllowed, one, head_or_large, head_or_cut, chunk_or_cut, OneOutcome, OneBody, NoReplyBeginsAnother}
+use Rattle.ojp_http.specs.Asking.{Tells}
+use Rattle.ojp_http.specs.Laws.{AreTwo, AreAllowed, one, head_or_large, head_or_cut, chunk_or_cut, OneOutcome, OneBody, NoReplyBeginsAnother}
 use Rattle.ojp_http.proofs.Grammars.{requests, responses}
 use Rattle.ojp_http.proofs.MachineFacts.{after-nil}
-use Rattle.ojp_http.proofs.Unique.{Differ, Agree, lift, frames_agree, Pair, headed, agreed, large_too, cut_too, pairs}
+use Rattle.ojp_http.proofs.Unique.{Differ, lift, frames_agree, Pair, headed, agreed, large_too, cut_too, pairs}
 
 -- ---- verdicts of requests and of replies
 

@@ -1,5 +1,5 @@
 -- A reply in pieces, as it is seen from outside.
-use Rattle.std.specs.Prelude.{◌≡◌, ◌≢◌, ℕ, ◌<◌, ◌≤◌, Bool, false, List, [], ◌∷◌, ◌++◌, length, take, Option, Result, Ok, Err}
+use Rattle.std.specs.Prelude.{◌≡◌, ◌≢◌, ℕ, ◌≤◌, false, List, [], ◌++◌, length, take, Option, Result, Ok, Err}
 use Rattle.ojp_http.specs.declared.refusal.Refusal.{Refusal}
 use Rattle.ojp_http.specs.declared.fed.ReplyFed.{ReplyFed}
 use Rattle.ojp_http.specs.declared.fed.ReplyFed.TheVariants as fed
@@ -11,7 +11,7 @@ use Rattle.ojp_http.specs.declared.machine.Place.{Place}
 use Rattle.ojp_http.specs.declared.machine.Stop.{Stop}
 use Rattle.ojp_http.specs.declared.machine.Stop.TheVariants.{Refused, NoMemory}
 use Rattle.ojp_http.specs.declared.scan.Scan.{Scan}
-use Rattle.ojp_http.specs.Verdicts.{Verdict, whole, refused, cut, after}
+use Rattle.ojp_http.specs.Verdicts.{Verdict, refused, after}
 use Rattle.ojp_http.specs.Bodies.{Replies}
 use Rattle.ojp_http.specs.Asking.{HttpReply}
 use Rattle.ojp_http.specs.Machine.{ReadsAt, IsOpenAt, is_whole_at}

@@ -5,7 +5,7 @@ use crate::{
     HttpRefusal, Reply, ReplyFed, ReplyRefused, read_request, request, write_no_memory,
     write_response_head,
 };
-use ojp_outside::{MemSink, MemSource};
+use ojp_outside::{MemSink, MemSource, put_parts};
 use ojp_values::List;
 use std::alloc::{AllocError, Global};
 use std::test::Fail;
@@ -147,6 +147,16 @@ fn bodies_by_length_and_in_chunks(rt: HostRuntime) -> Result<(), Fail> {
     Ok(())
 }
 
+#[test]
+fn a_read_that_fails(rt: HostRuntime) -> Result<(), Fail> {
+    let alloc = rt.alloc();
+    let bytes = Vec::from_slice(alloc, b"POST /ojp HTTP/1.1\r\n")?;
+    let mut input = MemSource::new(bytes, 7, Vec::from_slice(alloc, &[2])?);
+    let found = read_request(alloc, &mut input);
+    assert_eq!(rt; found.err(), Some(HttpRefusal::ReadFault));
+    Ok(())
+}
+
 /// A run of so many bytes between two texts.
 fn around(alloc: Global, front: &str, count: usize, back: &str) -> Result<String, AllocError> {
     let run = "a".repeat(alloc, count)?;
@@ -211,10 +221,10 @@ fn the_bytes_of_requests_and_responses(rt: HostRuntime) -> Result<(), Fail> {
         Err(_) => assert!(rt; false),
     }
     let mut sink = MemSink::new(alloc, Vec::new(alloc));
-    assert_eq!(rt; HttpRefusal::Method.name(), "Method");
     write_response_head(HttpRefusal::Method.status(), 7, &mut sink)?;
+    put_parts(&mut sink, &[HttpRefusal::Method.name().as_bytes(), b"\n"])?;
     let text =
-        b"HTTP/1.1 405 Method Not Allowed\r\nAllow: POST\r\nContent-Type: text/plain\r\nContent-Length: 7\r\nConnection: close\r\n\r\n";
+        b"HTTP/1.1 405 Method Not Allowed\r\nAllow: POST\r\nContent-Type: text/plain\r\nContent-Length: 7\r\nConnection: close\r\n\r\nMethod\n";
     assert_eq!(rt; sink.written(), text.as_slice());
     let mut sink = MemSink::new(alloc, Vec::new(alloc));
     write_no_memory(&mut sink)?;

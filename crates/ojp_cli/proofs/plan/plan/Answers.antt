@@ -1,6 +1,16 @@
-use Rattle.ojp_cli.proofs.PlanFacts.{written_ends}
+use Rattle.ojp_cli.proofs.PlanFacts.{leaves_unwritten, written_ends}
 use Rattle.ojp_cli.proofs.plan.plan.Goals as goal
 
-pub returns : goal.returns
-returns g c =
-    written_ends _ _ c.in_ok-table.table c.in_ok-ask.ask c.in_ok-delivery.delivery _ c.in_ok-table.ensures.ok c.in_ok-ask.ensures.ok c.in_ok-delivery.ensures.ok c.write_delivery.ensures.ok c.write_delivery.ensures.err
+pub returns-clause-ends : goal.returns-clause-ends
+returns-clause-ends g c =
+    written_ends _ _ (record {
+      table = c.in_ok-table.table;
+      of_file = c.in_ok-table.ensures.ok;
+      ask = c.in_ok-ask.ask;
+      of_input = c.in_ok-ask.ensures.ok;
+      delivery = c.in_ok-delivery.delivery;
+      answers = c.in_ok-delivery.ensures.ok;
+    }) _ c.write_delivery.ensures.ok c.write_delivery.ensures.err
+
+pub returns-clause-untouched : goal.returns-clause-untouched
+returns-clause-untouched g c = leaves_unwritten _ _ _ _ _ _ c.write_delivery.ensures.err
