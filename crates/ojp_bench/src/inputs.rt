@@ -57,10 +57,9 @@ fn delivery(alloc: Global) -> Option<Doc> {
 fn trip(alloc: Global) -> Option<Trip> {
     let start = Instant::new(1_714_983_000).ok()?;
     let end = Instant::new(1_714_990_200).ok()?;
-    let leg = leg(start, end)?;
     let mut legs = List::new(alloc);
     for _ in 0..LEGS {
-        legs.push(leg).ok()?;
+        legs.push(leg(start, end)?).ok()?;
     }
     Some(Trip {
         duration: 7_200,
