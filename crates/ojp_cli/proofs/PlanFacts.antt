@@ -2,30 +2,31 @@
 use Rattle.std.proofs.Common.{ℕ, Option, Result, Ok, Err, OnOk, IfErr, refl}
 use Rattle.std.specs.Io.KnownBytes.{Appends}
 use Rattle.ojp_values.specs.Texts.{Text}
-use Rattle.ojp_cli.specs.Plans.{Around, delivery_bytes, Due, Ends, StopsFor, WriteStops}
+use Rattle.ojp_cli.specs.Around.{Around}
+use Rattle.ojp_cli.specs.Plans.{delivery_bytes, Due, Ends, Files, StopsFor, WriteStops}
 use Rattle.ojp_cli.specs.Stops.{LeavesOutput}
 use Rattle.ojp_cli.specs.declared.stops.Stop.{Stop}
 use Rattle.ojp_cli.specs.declared.stops.Stop.TheVariants.{Document, Words, File, FileTooLong, Input, Output, Memory, Table}
 
 unwritten_stops :
-    (a : Around) (file : Text) (due : Due a.contents file a.left a.left_now a.ended_now) (stop : Stop)
-    → WriteStops a.written a.written_now a.output_faults a.output_faults_now (delivery_bytes due.delivery) stop → StopsFor a file stop
-unwritten_stops a file due (Document at reason) stops = absurd stops
-unwritten_stops a file due Words stops = stops
-unwritten_stops a file due File stops = absurd stops
-unwritten_stops a file due FileTooLong stops = absurd stops
-unwritten_stops a file due Input stops = absurd stops
-unwritten_stops a file due Output stops = (record { due = due; gained = stops.0 }, stops.1)
-unwritten_stops a file due Memory stops = tt
-unwritten_stops a file due (Table line reason) stops = absurd stops
+    (f : Files) (a : Around) (file : Text) (due : Due f.contents file a.left a.left_now a.ended_now) (stop : Stop)
+    → WriteStops a.written a.written_now a.output_faults a.output_faults_now (delivery_bytes due.delivery) stop → StopsFor f a file stop
+unwritten_stops f a file due (Document at reason) stops = absurd stops
+unwritten_stops f a file due Words stops = stops
+unwritten_stops f a file due File stops = absurd stops
+unwritten_stops f a file due FileTooLong stops = absurd stops
+unwritten_stops f a file due Input stops = absurd stops
+unwritten_stops f a file due Output stops = (record { due = due; gained = stops.0 }, stops.1)
+unwritten_stops f a file due Memory stops = tt
+unwritten_stops f a file due (Table line reason) stops = absurd stops
 
 pub written_ends :
-    {A : Type 0} (a : Around) (file : Text) (due : Due a.contents file a.left a.left_now a.ended_now) (result : Result A Stop)
+    {A : Type 0} (f : Files) (a : Around) (file : Text) (due : Due f.contents file a.left a.left_now a.ended_now) (result : Result A Stop)
     → OnOk result (Appends a.written a.written_now (delivery_bytes due.delivery))
     → IfErr result (λ stop. WriteStops a.written a.written_now a.output_faults a.output_faults_now (delivery_bytes due.delivery) stop)
-    → Ends a file result
-written_ends a file due (Ok done) gained stops = record { due = due; gained = gained }
-written_ends a file due (Err stop) gained stops = unwritten_stops a file due stop stops
+    → Ends f a file result
+written_ends f a file due (Ok done) gained stops = record { due = due; gained = gained }
+written_ends f a file due (Err stop) gained stops = unwritten_stops f a file due stop stops
 
 unwritten_leaves : (old new : Option Text) (faults faults_now : ℕ) (bytes : Text) (stop : Stop) → WriteStops old new faults faults_now bytes stop → LeavesOutput old new stop
 unwritten_leaves old new faults faults_now bytes (Document at reason) stops = absurd stops

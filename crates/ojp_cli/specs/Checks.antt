@@ -1,6 +1,6 @@
 -- What `check` does with a document.
-use Rattle.std.specs.Prelude.{◌≡◌, ℕ, IsTrue, Bool, Option, Some, IfSome, codes, Result, Ok, Err}
-use Rattle.std.specs.Io.KnownBytes.{Appends, Consumes, IsAtEnd}
+use Rattle.std.specs.Prelude.{Bool, Option, codes, Result, Ok, Err}
+use Rattle.std.specs.Io.KnownBytes.{Appends}
 use Rattle.ojp_values.specs.Texts.{Text}
 use Rattle.ojp_values.specs.declared.asks.Ask.{Ask}
 use Rattle.ojp_values.specs.declared.asks.Ask.TheVariants as asks
@@ -10,11 +10,10 @@ use Rattle.ojp_values.specs.declared.documents.Doc.{Doc}
 use Rattle.ojp_values.specs.declared.documents.Doc.TheVariants as docs
 use Rattle.ojp_outside.specs.Causes.{Rose}
 use Rattle.ojp_outside.specs.Known.{AppendsPrefix}
-use Rattle.ojp_grammar.specs.Documents.{IsWanted, Spells}
-use Rattle.ojp_grammar.specs.Places.{IsRefused}
-use Rattle.ojp_grammar.specs.declared.refusals.Reason.{Reason}
 use Rattle.ojp_grammar.specs.declared.refusals.Want.TheVariants.{Either}
 use Rattle.ojp_cli.specs.Stops.{line_of}
+use Rattle.ojp_cli.specs.Around.{Around}
+use Rattle.ojp_cli.specs.Inputs.{IsDocumentOf, IsNoDocument}
 use Rattle.ojp_cli.specs.declared.stops.Stop.{Stop}
 use Rattle.ojp_cli.specs.declared.stops.Stop.TheVariants.{Document, Words, File, FileTooLong, Input, Output, Memory, Table}
 
@@ -35,57 +34,21 @@ abbrev pub element_name : Doc → Text
 element_name (docs.Ask ask) = ask_name ask
 element_name (docs.Delivery delivery) = delivery_name delivery
 
--- the input, where it tells its bytes, had just the document left, and was read to its end
-pub record IsDocumentOf (old new : Option Text) (ended : Bool) (doc : Doc) : Type 0 where
-  pub bytes : Text
-  pub taken : Consumes old new bytes
-  pub at_end : IsAtEnd new
-  pub end_seen : IsTrue ended
-  pub spells : Spells doc bytes
-  pub wanted : IsWanted Either doc
-
 -- the output gained just the name of the document's element, as a line
 pub record Checked (left left_now : Option Text) (ended : Bool) (written written_now : Option Text) : Type 0 where
   pub doc : Doc
-  pub of_input : IsDocumentOf left left_now ended doc
+  pub of_input : IsDocumentOf Either left left_now ended doc
   pub gained : Appends written written_now (line_of (element_name doc))
 
 -- the output gained a front of that line
 pub record CheckedInPart (left left_now : Option Text) (ended : Bool) (written written_now : Option Text) : Type 0 where
   pub doc : Doc
-  pub of_input : IsDocumentOf left left_now ended doc
+  pub of_input : IsDocumentOf Either left left_now ended doc
   pub gained : AppendsPrefix written written_now (line_of (element_name doc))
-
--- no document is what the input had left, where it tells its bytes: at this place, for this reason
-abbrev pub IsNoDocument : Option Text → ℕ → Reason → Type 0
-IsNoDocument left at reason = IfSome left (λ bytes. IsRefused Either bytes at reason)
-
--- why an input gives no document
-abbrev pub ReadStops : Option Text → ℕ → ℕ → Stop → Type 0
-ReadStops left faults faults_now (Document at reason) = IsNoDocument left at reason
-ReadStops left faults faults_now Input = Rose faults faults_now
-ReadStops left faults faults_now Memory = Unit {0}
-ReadStops left faults faults_now Words = ⊥
-ReadStops left faults faults_now File = ⊥
-ReadStops left faults faults_now FileTooLong = ⊥
-ReadStops left faults faults_now Output = ⊥
-ReadStops left faults faults_now (Table line reason) = ⊥
-
--- what of the outside stands behind the end of `check`, before the call and after it
-pub record Around : Type 0 where
-  pub left : Option Text
-  pub left_now : Option Text
-  pub ended_now : Bool
-  pub input_faults : ℕ
-  pub input_faults_now : ℕ
-  pub written : Option Text
-  pub written_now : Option Text
-  pub output_faults : ℕ
-  pub output_faults_now : ℕ
 
 -- the cause of a stop of `check`: each step before it was passed
 abbrev pub StopsFor : Around → Stop → Type 0
-StopsFor a (Document at reason) = IsNoDocument a.left at reason
+StopsFor a (Document at reason) = IsNoDocument Either a.left at reason
 StopsFor a Words = ⊥
 StopsFor a File = ⊥
 StopsFor a FileTooLong = ⊥

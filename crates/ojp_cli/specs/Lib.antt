@@ -2,5 +2,7 @@ pub mod Reasons
 pub mod Words
 pub mod Commands
 pub mod Stops
+pub mod Around
+pub mod Inputs
 pub mod Plans
 pub mod Checks

@@ -1,7 +1,7 @@
 -- What `plan` does with a timetable file and a request.
-use Rattle.std.specs.Prelude.{◌≡◌, ℕ, ◌<◌, ◌≤◌, IsTrue, Bool, List, ◌⊎◌, length, Option, Some, None, IfSome, Result, Ok, Err}
+use Rattle.std.specs.Prelude.{◌≡◌, ℕ, ◌<◌, ◌≤◌, Bool, List, ◌⊎◌, length, Option, Some, None, IfSome, Result, Ok, Err}
 use Rattle.std.specs.Option.{ForSome}
-use Rattle.std.specs.Io.KnownBytes.{Appends, Consumes, IsAtEnd, Keeps}
+use Rattle.std.specs.Io.KnownBytes.{Appends, Keeps}
 use Rattle.ojp_values.specs.Texts.{Text}
 use Rattle.ojp_values.specs.declared.asks.Ask.{Ask}
 use Rattle.ojp_values.specs.declared.asks.Ask.TheVariants as asks
@@ -19,11 +19,11 @@ use Rattle.ojp_timetable.specs.Tables.{Timetable}
 use Rattle.ojp_timetable.specs.Answers.{TripAnswered}
 use Rattle.ojp_timetable.specs.TableText.{IsText, IsRefused as IsTableRefused}
 use Rattle.ojp_grammar.specs.Items.{spell}
-use Rattle.ojp_grammar.specs.Documents.{items, IsWell, Spells}
-use Rattle.ojp_grammar.specs.Places.{IsRefused}
+use Rattle.ojp_grammar.specs.Documents.{items}
 use Rattle.ojp_timetable.specs.declared.lines.TableReason.{TableReason}
-use Rattle.ojp_grammar.specs.declared.refusals.Reason.{Reason}
 use Rattle.ojp_grammar.specs.declared.refusals.Want.TheVariants.{Request}
+use Rattle.ojp_cli.specs.Around.{Around}
+use Rattle.ojp_cli.specs.Inputs.{IsDocumentOf, IsNoDocument}
 use Rattle.ojp_cli.specs.declared.stops.Stop.{Stop}
 use Rattle.ojp_cli.specs.declared.stops.Stop.TheVariants.{Document, Words, File, FileTooLong, Input, Output, Memory, Table}
 
@@ -49,21 +49,12 @@ pub record IsFileOf (contents : Contents) (file : Text) (table : Timetable) : Ty
   pub within : length bytes ≤ file_limit
   pub is_text : IsText bytes table
 
--- the input, where it tells its bytes, had just the request left, and was read to its end
-pub record IsRequestOf (old new : Option Text) (ended : Bool) (ask : Ask) : Type 0 where
-  pub bytes : Text
-  pub taken : Consumes old new bytes
-  pub at_end : IsAtEnd new
-  pub end_seen : IsTrue ended
-  pub spells : Spells (docs.Ask ask) bytes
-  pub well : IsWell (docs.Ask ask)
-
 -- a delivery that is due: it answers the request that the input had by the timetable of the file
 pub record Due (contents : Contents) (file : Text) (left left_now : Option Text) (ended : Bool) : Type 0 where
   pub table : Timetable
   pub of_file : IsFileOf contents file table
   pub ask : Ask
-  pub of_input : IsRequestOf left left_now ended ask
+  pub of_input : IsDocumentOf Request left left_now ended (docs.Ask ask)
   pub delivery : Delivery
   pub answers : PlanAnswers table ask delivery
 
@@ -80,10 +71,6 @@ pub record Planned (contents : Contents) (file : Text) (left left_now : Option T
 pub record PlannedInPart (contents : Contents) (file : Text) (left left_now : Option Text) (ended : Bool) (written written_now : Option Text) : Type 0 where
   pub due : Due contents file left left_now ended
   pub gained : AppendsPrefix written written_now (delivery_bytes due.delivery)
-
--- no request is what the input had left, where it tells its bytes: at this place, for this reason
-abbrev pub IsNoRequest : Option Text → ℕ → Reason → Type 0
-IsNoRequest left at reason = IfSome left (λ bytes. IsRefused Request bytes at reason)
 
 -- a read of the file failed, and its name is that of the last read that did, where the store tells it
 pub record FileFailed (faults faults_now : ℕ) (failed_name : Option (Option Text)) (file : Text) : Type 0 where
@@ -115,11 +102,6 @@ pub record IsGood (contents : Contents) (faults faults_now : ℕ) (file : Text) 
   pub within : length bytes ≤ file_limit
   pub is_text : IsText bytes table
 
--- the input tells that it had just these bytes left, and no read of it failed
-pub record IsHeard (left : Option Text) (faults faults_now : ℕ) (bytes : Text) : Type 0 where
-  pub told : left ≡ Some bytes
-  pub rests : Rests faults faults_now
-
 -- why a file gives no timetable
 abbrev pub TableStops : Contents → Option (Option Text) → ℕ → ℕ → Text → Stop → Type 0
 TableStops contents failed_name faults faults_now file File = FileFailed faults faults_now failed_name file
@@ -130,17 +112,6 @@ TableStops contents failed_name faults faults_now file Words = ⊥
 TableStops contents failed_name faults faults_now file Input = ⊥
 TableStops contents failed_name faults faults_now file Output = ⊥
 TableStops contents failed_name faults faults_now file (Document at reason) = ⊥
-
--- why an input gives no request
-abbrev pub RequestStops : Option Text → ℕ → ℕ → Stop → Type 0
-RequestStops left faults faults_now (Document at reason) = IsNoRequest left at reason
-RequestStops left faults faults_now Input = Rose faults faults_now
-RequestStops left faults faults_now Memory = Unit {0}
-RequestStops left faults faults_now Words = ⊥
-RequestStops left faults faults_now File = ⊥
-RequestStops left faults faults_now FileTooLong = ⊥
-RequestStops left faults faults_now Output = ⊥
-RequestStops left faults faults_now (Table line reason) = ⊥
 
 -- why a delivery of these bytes was not written: a write failed behind a front of it, or memory ran out before the first write
 abbrev pub WriteStops : Option Text → Option Text → ℕ → ℕ → Text → Stop → Type 0
@@ -157,34 +128,25 @@ WriteStops written written_now faults faults_now bytes (Table line reason) = ⊥
 abbrev pub IsAccepted : Contents → Text → Type 0
 IsAccepted contents file = (table : Timetable) × IsFileOf contents file table
 
--- what of the outside stands behind the end of `plan`, before the call and after it
-pub record Around : Type 0 where
+-- the files around `plan`: what stands behind its end, before the call and after it
+pub record Files : Type 0 where
   pub contents : Contents
   pub failed_name : Option (Option Text)
-  pub file_faults : ℕ
-  pub file_faults_now : ℕ
-  pub left : Option Text
-  pub left_now : Option Text
-  pub ended_now : Bool
-  pub input_faults : ℕ
-  pub input_faults_now : ℕ
-  pub written : Option Text
-  pub written_now : Option Text
-  pub output_faults : ℕ
-  pub output_faults_now : ℕ
+  pub faults : ℕ
+  pub faults_now : ℕ
 
 -- the cause of a stop of `plan`: each step before it was passed
-abbrev pub StopsFor : Around → Text → Stop → Type 0
-StopsFor a file (Document at reason) = IsAccepted a.contents file × IsNoRequest a.left at reason
-StopsFor a file Words = ⊥
-StopsFor a file File = FileFailed a.file_faults a.file_faults_now a.failed_name file
-StopsFor a file FileTooLong = IsTooLong a.contents file
-StopsFor a file Input = IsAccepted a.contents file × Rose a.input_faults a.input_faults_now
-StopsFor a file Output = PlannedInPart a.contents file a.left a.left_now a.ended_now a.written a.written_now × Rose a.output_faults a.output_faults_now
-StopsFor a file Memory = Unit {0}
-StopsFor a file (Table line reason) = IsRefusedFile a.contents file line reason
+abbrev pub StopsFor : Files → Around → Text → Stop → Type 0
+StopsFor f a file (Document at reason) = IsAccepted f.contents file × IsNoDocument Request a.left at reason
+StopsFor f a file Words = ⊥
+StopsFor f a file File = FileFailed f.faults f.faults_now f.failed_name file
+StopsFor f a file FileTooLong = IsTooLong f.contents file
+StopsFor f a file Input = IsAccepted f.contents file × Rose a.input_faults a.input_faults_now
+StopsFor f a file Output = PlannedInPart f.contents file a.left a.left_now a.ended_now a.written a.written_now × Rose a.output_faults a.output_faults_now
+StopsFor f a file Memory = Unit {0}
+StopsFor f a file (Table line reason) = IsRefusedFile f.contents file line reason
 
 -- how `plan` ends
-abbrev pub Ends : {A : Type 0} → Around → Text → Result A Stop → Type 0
-Ends a file (Ok done) = Planned a.contents file a.left a.left_now a.ended_now a.written a.written_now
-Ends a file (Err stop) = StopsFor a file stop
+abbrev pub Ends : {A : Type 0} → Files → Around → Text → Result A Stop → Type 0
+Ends f a file (Ok done) = Planned f.contents file a.left a.left_now a.ended_now a.written a.written_now
+Ends f a file (Err stop) = StopsFor f a file stop

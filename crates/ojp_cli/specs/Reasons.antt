@@ -1,24 +1,10 @@
--- The words for the reasons of refusals.
-use Rattle.std.specs.Prelude.{◌++◌, codes}
+-- The words for the reasons of refused documents.
+use Rattle.std.specs.Prelude.{codes}
 use Rattle.ojp_values.specs.Texts.{Text}
 use Rattle.ojp_values.specs.declared.kinds.Kind.{Kind}
 use Rattle.ojp_values.specs.declared.kinds.Kind.TheVariants as kinds
 use Rattle.ojp_grammar.specs.declared.refusals.Reason.{Reason}
 use Rattle.ojp_grammar.specs.declared.refusals.Reason.TheVariants.{Markup, Field, Truncated, Trailing}
-use Rattle.ojp_timetable.specs.declared.lines.TableReason.{TableReason}
-use Rattle.ojp_timetable.specs.declared.lines.TableReason.TheVariants.{LineForm, Value, BadZone, ForeignStop, DoubledName, UnknownStop, UnknownService, FallingTimes, Limit}
-
--- why a line of a timetable is refused
-abbrev pub table_words : TableReason → Text
-table_words LineForm = codes "line form"
-table_words Value = codes "value"
-table_words BadZone = codes "zone"
-table_words ForeignStop = codes "foreign stop"
-table_words DoubledName = codes "doubled name"
-table_words UnknownStop = codes "unknown stop"
-table_words UnknownService = codes "unknown service"
-table_words FallingTimes = codes "falling times"
-table_words Limit = codes "limit"
 
 -- a field that is no text of the kind
 abbrev pub field_words : Kind → Text

@@ -4,7 +4,8 @@ use Rattle.std.specs.Fmt.{decimal}
 use Rattle.std.specs.Io.KnownBytes.{Appends, Keeps}
 use Rattle.ojp_values.specs.Texts.{Text}
 use Rattle.ojp_outside.specs.Causes.{Rests}
-use Rattle.ojp_cli.specs.Reasons.{document_words, table_words}
+use Rattle.ojp_timetable.specs.Views.{reason_words}
+use Rattle.ojp_cli.specs.Reasons.{document_words}
 use Rattle.ojp_cli.specs.declared.stops.Stop.{Stop}
 use Rattle.ojp_cli.specs.declared.stops.Stop.TheVariants.{Document, Words, File, FileTooLong, Input, Output, Memory, Table}
 
@@ -40,7 +41,7 @@ text_of file FileTooLong = codes "too long: " ++ file
 text_of file Input = codes "input"
 text_of file Output = codes "output"
 text_of file Memory = codes "no memory"
-text_of file (Table line reason) = table_text file line (table_words reason)
+text_of file (Table line reason) = table_text file line (reason_words reason)
 
 -- standard error gained just the line, unless a write to it failed
 abbrev pub Tells : Option Text → Option Text → ℕ → ℕ → Text → Type 0

@@ -4,12 +4,12 @@ ghost use Rattle.std.specs.Prelude.{◌≡◌, ◌++◌, [], ◌∷◌, IfOk, If
 ghost use Rattle.std.specs.Io.KnownBytes.{Appends};
 ghost use Rattle.ojp_outside.specs.Known.{LosesPrefix};
 ghost use Rattle.ojp_cli.specs.Stops.{LeavesOutput};
-ghost use Rattle.ojp_cli.specs.Checks.{ask_name, delivery_name, element_name, Ends, IsDocumentOf, ReadStops};
+ghost use Rattle.ojp_cli.specs.Checks.{ask_name, delivery_name, element_name, Ends};
 
+use crate::documents::read_document;
 use crate::stops::Stop;
-use ojp_grammar::refusals::{Want, WholeRefused};
-use ojp_grammar::whole::whole;
-use ojp_outside::{ReadRefused, Sink, Source, WriteFault, put_parts, read_all};
+use ojp_grammar::refusals::Want;
+use ojp_outside::{Sink, Source, WriteFault, put_parts};
 use ojp_values::{Ask, Delivery, Doc};
 use std::alloc::Global;
 
@@ -33,31 +33,11 @@ pub(crate) fn check<I: Source, O: Sink>(
     ensures untouched { IfErr result (LeavesOutput (O.written output.old) (O.written output.new)) }
     ensures taken { LosesPrefix (I.left input.old) (I.left input.new) }
 {
-    let document = read_document(alloc, input)?;
+    let document = read_document(alloc, Want::Either, input)?;
     let name = name_of(&document);
     match put_parts(output, &[name.as_bytes(), b"\n"]) {
         Ok(()) => Ok(()),
         Err(WriteFault) => Err(Stop::Output),
-    }
-}
-
-fn read_document<I: Source>(alloc: Global, input: &mut I) -> Result<Doc, Stop>
-    ensures ok { IfOk result (λ doc. IsDocumentOf (I.left input.old) (I.left input.new) (I.ended input.new) doc) }
-    ensures err { IfErr result (λ stop. ReadStops (I.left input.old) (I.faults input.old) (I.faults input.new) stop) }
-    ensures taken { LosesPrefix (I.left input.old) (I.left input.new) }
-{
-    let bytes = match read_all(alloc, input, usize::MAX) {
-        Ok(bytes) => bytes,
-        Err(ReadRefused::Failed) => return Err(Stop::Input),
-        Err(ReadRefused::NoMemory) => return Err(Stop::Memory),
-    };
-    match whole(alloc, Want::Either, &bytes) {
-        Ok(document) => Ok(document),
-        Err(WholeRefused::At(refused)) => Err(Stop::Document {
-            at: refused.at,
-            reason: refused.reason,
-        }),
-        Err(WholeRefused::NoMemory) => Err(Stop::Memory),
     }
 }
 

@@ -2,6 +2,7 @@
 #![tactic(auto)]
 
 mod check;
+mod documents;
 mod plan;
 mod reasons;
 mod run;

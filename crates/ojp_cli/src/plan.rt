@@ -9,15 +9,15 @@ ghost use Rattle.ojp_grammar.specs.Documents.{items};
 ghost use Rattle.ojp_grammar.specs.Items.{spell};
 ghost use Rattle.ojp_values.specs.declared.documents.Doc.TheVariants as docs;
 ghost use Rattle.ojp_cli.specs.Stops.{LeavesOutput};
-ghost use Rattle.ojp_cli.specs.Plans.{delivery_bytes, Ends, IsFileOf, IsRequestOf, PlanAnswers, TableStops, RequestStops, WriteStops};
+ghost use Rattle.ojp_cli.specs.Plans.{delivery_bytes, Ends, IsFileOf, PlanAnswers, TableStops, WriteStops};
+ghost use Rattle.ojp_cli.specs.Inputs.{IsDocumentOf, ReadStops};
+ghost use Rattle.ojp_grammar.specs.declared.refusals.Want.TheVariants as wants;
 
+use crate::documents::read_document;
 use crate::stops::Stop;
 use ojp_encode::write;
-use ojp_grammar::refusals::{Want, WholeRefused};
-use ojp_grammar::whole::whole;
-use ojp_outside::{
-    MemSink, ReadRefused, Sink, Source, Store, StoreRefused, WriteFault, put_all, read_all,
-};
+use ojp_grammar::refusals::Want;
+use ojp_outside::{MemSink, Sink, Source, Store, StoreRefused, WriteFault, put_all};
 use ojp_scan::Scan;
 use ojp_scan::answers::answer_trip;
 use ojp_timetable::laws::answers_are_bounded;
@@ -39,8 +39,9 @@ pub(crate) fn plan<I: Source, O: Sink, F: Store>(
     ensures ends { Ends (record {
       contents = F.contents store.old;
       failed_name = F.failed_name store.new;
-      file_faults = F.faults store.old;
-      file_faults_now = F.faults store.new;
+      faults = F.faults store.old;
+      faults_now = F.faults store.new;
+    }) (record {
       left = I.left input.old;
       left_now = I.left input.new;
       ended_now = I.ended input.new;
@@ -78,23 +79,14 @@ fn read_table<F: Store>(alloc: Global, file: &str, store: &mut F) -> Result<Time
 }
 
 fn read_request<I: Source>(alloc: Global, input: &mut I) -> Result<Ask, Stop>
-    ensures ok { IfOk result (λ ask. IsRequestOf (I.left input.old) (I.left input.new) (I.ended input.new) ask) }
-    ensures err { IfErr result (λ stop. RequestStops (I.left input.old) (I.faults input.old) (I.faults input.new) stop) }
+    ensures ok { IfOk result (λ ask. IsDocumentOf wants.Request (I.left input.old) (I.left input.new) (I.ended input.new) (docs.Ask ask)) }
+    ensures err { IfErr result (λ stop. ReadStops wants.Request (I.left input.old) (I.faults input.old) (I.faults input.new) stop) }
     ensures taken { LosesPrefix (I.left input.old) (I.left input.new) }
 {
-    let bytes = match read_all(alloc, input, usize::MAX) {
-        Ok(bytes) => bytes,
-        Err(ReadRefused::Failed) => return Err(Stop::Input),
-        Err(ReadRefused::NoMemory) => return Err(Stop::Memory),
-    };
-    match whole(alloc, Want::Request, &bytes) {
+    match read_document(alloc, Want::Request, input) {
         Ok(Doc::Ask(ask)) => Ok(ask),
         Ok(Doc::Delivery(_)) => unreachable!(),
-        Err(WholeRefused::At(refused)) => Err(Stop::Document {
-            at: refused.at,
-            reason: refused.reason,
-        }),
-        Err(WholeRefused::NoMemory) => Err(Stop::Memory),
+        Err(stop) => Err(stop),
     }
 }
 

@@ -1,28 +1,10 @@
-//! The words for the reasons of refusals.
+//! The words for the reasons of refused documents.
 
 ghost use Rattle.std.specs.Prelude.{◌≡◌};
-ghost use Rattle.ojp_cli.specs.Reasons.{document_words, field_words, table_words};
+ghost use Rattle.ojp_cli.specs.Reasons.{document_words, field_words};
 
 use ojp_grammar::refusals::Reason;
-use ojp_timetable::lines::TableReason;
 use ojp_values::Kind;
-
-/// Why a line of a timetable is refused.
-pub(crate) fn words_of_table(reason: TableReason) -> &'static str
-    ensures { result.now ≡ table_words reason }
-{
-    match reason {
-        TableReason::LineForm => "line form",
-        TableReason::Value => "value",
-        TableReason::BadZone => "zone",
-        TableReason::ForeignStop => "foreign stop",
-        TableReason::DoubledName => "doubled name",
-        TableReason::UnknownStop => "unknown stop",
-        TableReason::UnknownService => "unknown service",
-        TableReason::FallingTimes => "falling times",
-        TableReason::Limit => "limit",
-    }
-}
 
 /// Why a document is refused.
 pub(crate) fn words_of_document(reason: Reason) -> &'static str

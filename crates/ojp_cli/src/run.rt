@@ -11,13 +11,15 @@ ghost use Rattle.ojp_grammar.specs.Places.{IsRefused};
 ghost use Rattle.ojp_grammar.specs.declared.refusals.Want.{Want};
 ghost use Rattle.ojp_grammar.specs.declared.refusals.Reason.{Reason};
 ghost use Rattle.ojp_timetable.specs.Tables.{Timetable};
+ghost use Rattle.ojp_timetable.specs.Views.{reason_words};
 ghost use Rattle.ojp_timetable.specs.TableText.{IsRefused as IsTableRefused};
-ghost use Rattle.ojp_cli.specs.Reasons.{document_words, table_words};
+ghost use Rattle.ojp_cli.specs.Reasons.{document_words};
 ghost use Rattle.ojp_timetable.specs.declared.lines.TableReason.{TableReason};
 ghost use Rattle.ojp_cli.specs.Words.{named_by, Plan, Check, IfPlan, IfCheck};
 ghost use Rattle.ojp_cli.specs.Stops.{Tells, document_text, table_text};
-ghost use Rattle.ojp_cli.specs.Plans.{Planned, PlannedInPart, IsAccepted, IsNoRequest, IsRefusedFile, IsTooLong, IsReadable, IsGood, IsHeard, FileFailed, file_limit};
-ghost use Rattle.ojp_cli.specs.Checks.{Checked, CheckedInPart, IsNoDocument};
+ghost use Rattle.ojp_cli.specs.Plans.{Planned, PlannedInPart, IsAccepted, IsRefusedFile, IsTooLong, IsReadable, IsGood, FileFailed, file_limit};
+ghost use Rattle.ojp_cli.specs.Checks.{Checked, CheckedInPart};
+ghost use Rattle.ojp_cli.specs.Inputs.{IsHeard, IsNoDocument};
 
 use crate::check::check;
 use crate::plan::plan;
@@ -55,10 +57,10 @@ pub fn run_here<I: Source, O: Sink, E: Sink, F: Store>(
     // 1: the steps before were passed, and the input had no such document left.
     ensures no_request { result ≡ 1 → IfPlan (named_by words.now) (λ file.
         IsAccepted (F.contents store.old) file
-        × ((at : ℕ) × (reason : Reason) × IsNoRequest (I.left input.old) at reason
+        × ((at : ℕ) × (reason : Reason) × IsNoDocument Want.Request (I.left input.old) at reason
         × Tells (E.written faults.old) (E.written faults.new) (E.faults faults.old) (E.faults faults.new) (document_text at (document_words reason)))) }
     ensures no_document { result ≡ 1 → IfCheck (named_by words.now)
-        ((at : ℕ) × (reason : Reason) × IsNoDocument (I.left input.old) at reason
+        ((at : ℕ) × (reason : Reason) × IsNoDocument Want.Either (I.left input.old) at reason
         × Tells (E.written faults.old) (E.written faults.new) (E.faults faults.old) (E.faults faults.new) (document_text at (document_words reason))) }
 
     // 3: the file could not be read, or has too many bytes; or it was accepted and the input could not be read.
@@ -87,7 +89,7 @@ pub fn run_here<I: Source, O: Sink, E: Sink, F: Store>(
     // 6: the file was read and is no timetable.
     ensures refused_file { result ≡ 6 → IfPlan (named_by words.now) (λ file.
         (line : ℕ) × (reason : TableReason) × IsRefusedFile (F.contents store.old) file line reason
-        × Tells (E.written faults.old) (E.written faults.new) (E.faults faults.old) (E.faults faults.new) (table_text file line (table_words reason))) }
+        × Tells (E.written faults.old) (E.written faults.new) (E.faults faults.old) (E.faults faults.new) (table_text file line (reason_words reason))) }
     ensures no_file { result ≡ 6 → IfCheck (named_by words.now) ⊥ }
 
     // At every other status the output is as it was. At each, only a front of the input was taken.

@@ -6,7 +6,7 @@ ghost use Rattle.std.specs.Io.KnownBytes.{Appends};
 ghost use Rattle.ojp_outside.specs.Causes.{Rests};
 ghost use Rattle.ojp_cli.specs.Stops.{document_text, status_of, table_text, Tells, text_of};
 
-use crate::reasons::{words_of_document, words_of_table};
+use crate::reasons::words_of_document;
 use itoa::Buffer;
 use ojp_grammar::refusals::Reason;
 use ojp_outside::{Sink, put_parts};
@@ -71,7 +71,7 @@ fn tell<E: Sink>(stop: Stop, file: &str, faults: &mut E)
         Stop::Input => put(faults, &[b"input\n"]),
         Stop::Output => put(faults, &[b"output\n"]),
         Stop::Memory => put(faults, &[b"no memory\n"]),
-        Stop::Table { line, reason } => tell_table(file, line, words_of_table(reason), faults),
+        Stop::Table { line, reason } => tell_table(file, line, reason.words(), faults),
     }
 }
 

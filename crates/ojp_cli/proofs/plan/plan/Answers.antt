@@ -3,7 +3,7 @@ use Rattle.ojp_cli.proofs.plan.plan.Goals as goal
 
 pub returns-clause-ends : goal.returns-clause-ends
 returns-clause-ends g c =
-    written_ends _ _ (record {
+    written_ends _ _ _ (record {
       table = c.in_ok-table.table;
       of_file = c.in_ok-table.ensures.ok;
       ask = c.in_ok-ask.ask;
