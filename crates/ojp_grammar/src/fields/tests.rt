@@ -80,7 +80,7 @@ fn names_of_stops(rt: HostRuntime) -> Result<(), Fail> {
 }
 
 #[test]
-fn moments_and_days(rt: HostRuntime) -> Result<(), Fail> {
+fn moments(rt: HostRuntime) -> Result<(), Fail> {
     let cases = [
         (Kind::Moment, "1969-12-31T23:59:59Z", None),
         (
@@ -105,6 +105,16 @@ fn moments_and_days(rt: HostRuntime) -> Result<(), Fail> {
         (Kind::Moment, "2024-05-06T08:60:00Z", None),
         (Kind::Moment, "2024-05-06T08:00:60Z", None),
         (Kind::Moment, "2024-05-06T08:00:00", None),
+    ];
+    for (kind, text, value) in cases {
+        assert_eq!(rt; read_field(kind, text.as_bytes()), value, "{text}");
+    }
+    Ok(())
+}
+
+#[test]
+fn days(rt: HostRuntime) -> Result<(), Fail> {
+    let cases = [
         (Kind::Day, "1970-01-02", None),
         (Kind::Day, "1970-01-03", Some(FieldValue::Day(Day::new(2)?))),
         (
@@ -127,7 +137,7 @@ fn moments_and_days(rt: HostRuntime) -> Result<(), Fail> {
 }
 
 #[test]
-fn numbers_and_kinds_of_event(rt: HostRuntime) {
+fn durations(rt: HostRuntime) {
     let cases = [
         (Kind::Seconds, "PT0S", Some(FieldValue::Seconds(0))),
         (
@@ -142,6 +152,15 @@ fn numbers_and_kinds_of_event(rt: HostRuntime) {
         (Kind::Change, "PT1S", Some(FieldValue::Change(1))),
         (Kind::Change, "PT7200S", Some(FieldValue::Change(7_200))),
         (Kind::Change, "PT7201S", None),
+    ];
+    for (kind, text, value) in cases {
+        assert_eq!(rt; read_field(kind, text.as_bytes()), value, "{text}");
+    }
+}
+
+#[test]
+fn numbers_and_kinds_of_event(rt: HostRuntime) {
+    let cases = [
         (Kind::Number, "0", None),
         (Kind::Number, "1", Some(FieldValue::Number(1))),
         (Kind::Number, "100", Some(FieldValue::Number(100))),
