@@ -3,3 +3,4 @@ pub mod Sequences
 pub mod Behind
 pub mod Short
 pub mod Sizes
+pub mod Fitting

@@ -2,6 +2,7 @@
 
 ghost use Rattle.std.specs.Prelude.{◌^◌, length};
 ghost use Rattle.ojp_values.specs.Limits.{IsBetween, IsWellAsk};
+ghost use Rattle.ojp_grammar.specs.Syntax.{Fits};
 ghost use Rattle.ojp_grammar.specs.Grammar.{TO, TRIP_ASK, MULTI_ASK, EVENT_ASK, POINTS_ASK, ASK};
 ghost use Rattle.ojp_grammar.specs.Documents.{to_said, trip_ask_said, multi_ask_said, event_ask_said, points_ask_said, ask_said};
 ghost use Rattle.ojp_encode.specs.Writing.{Writes, spelling};
@@ -12,6 +13,7 @@ use crate::markup::*;
 use crate::spelled::Spelled;
 use itoa::Buffer;
 use ojp_outside::{Sink, WriteFault};
+use ojp_tables::put_tag;
 use ojp_values::{Ask, EventAsk, EventKind, MultiAsk, PointsAsk, StopRef, TripAsk};
 
 /// A stop is a target where it stands in a list.
@@ -20,11 +22,13 @@ impl Spelled for StopRef {
 
     ghost is_well = { λ _. Unit {0} };
 
+    ghost fits = { λ s. Fits TO (to_said s) };
+
     ghost most = { 1_024 };
 
     fn put<S: Sink>(&self, sink: &mut S) -> Result<(), WriteFault> {
         let stop = self.text();
-        put(sink, &[TARGET_START, stop, TARGET_END])
+        put_tag!(put, sink; TARGET_START, stop, TARGET_END)
     }
 
     fn length(&self) -> u64 {
@@ -37,23 +41,16 @@ impl Spelled for TripAsk {
 
     ghost is_well = { λ _. Unit {0} };
 
+    ghost fits = { λ a. Fits TRIP_ASK (trip_ask_said a) };
+
     ghost most = { 2_048 };
 
     fn put<S: Sink>(&self, sink: &mut S) -> Result<(), WriteFault> {
         let origin = self.origin.text();
         let start: &[u8] = &self.start.text();
         let target = self.target.text();
-        put(
-            sink,
-            &[
-                TRIP_ASK_START,
-                origin,
-                ORIGIN_TIME,
-                start,
-                TIME_TARGET,
-                target,
-                TRIP_ASK_END,
-            ],
+        put_tag!(put, sink;
+            TRIP_ASK_START, origin, ORIGIN_TIME, start, TIME_TARGET, target, TRIP_ASK_END
         )
     }
 
@@ -66,6 +63,8 @@ impl Spelled for MultiAsk {
     ghost bytes = { λ a. spelling MULTI_ASK (multi_ask_said a) };
 
     ghost is_well = { λ a. IsBetween 1 256 (length a.targets) };
+
+    ghost fits = { λ a. Fits MULTI_ASK (multi_ask_said a) };
 
     ghost most = { 2 ^ 20 };
 
@@ -90,7 +89,9 @@ impl Spelled for MultiAsk {
 impl Spelled for EventAsk {
     ghost bytes = { λ a. spelling EVENT_ASK (event_ask_said a) };
 
-    ghost is_well = { λ _. Unit {0} };
+    ghost is_well = { λ a. IsBetween 1 100 a.number };
+
+    ghost fits = { λ a. Fits EVENT_ASK (event_ask_said a) };
 
     ghost most = { 2_048 };
 
@@ -100,29 +101,11 @@ impl Spelled for EventAsk {
         let start: &[u8] = &self.start.text();
         let number = digits.format(self.number).as_bytes();
         match self.kind {
-            EventKind::Departure => put(
-                sink,
-                &[
-                    EVENT_ASK_START,
-                    stop,
-                    ORIGIN_TIME,
-                    start,
-                    TIME_NUMBER,
-                    number,
-                    DEPARTURE_END,
-                ],
+            EventKind::Departure => put_tag!(put, sink;
+                EVENT_ASK_START, stop, ORIGIN_TIME, start, TIME_NUMBER, number, DEPARTURE_END
             ),
-            EventKind::Arrival => put(
-                sink,
-                &[
-                    EVENT_ASK_START,
-                    stop,
-                    ORIGIN_TIME,
-                    start,
-                    TIME_NUMBER,
-                    number,
-                    ARRIVAL_END,
-                ],
+            EventKind::Arrival => put_tag!(put, sink;
+                EVENT_ASK_START, stop, ORIGIN_TIME, start, TIME_NUMBER, number, ARRIVAL_END
             ),
         }
     }
@@ -141,14 +124,16 @@ impl Spelled for PointsAsk {
 
     ghost is_well = { λ _. Unit {0} };
 
+    ghost fits = { λ a. Fits POINTS_ASK (points_ask_said a) };
+
     ghost most = { 1_024 };
 
     fn put<S: Sink>(&self, sink: &mut S) -> Result<(), WriteFault> {
         match &self.place {
-            None => put(sink, &[POINTS_ASK_START, POINTS_ASK_END]),
+            None => put_tag!(put, sink; POINTS_ASK_START, POINTS_ASK_END),
             Some(stop) => {
                 let stop = stop.text();
-                put(sink, &[POINTS_PLACE_START, stop, POINTS_PLACE_END])
+                put_tag!(put, sink; POINTS_PLACE_START, stop, POINTS_PLACE_END)
             }
         }
     }
@@ -165,6 +150,8 @@ impl Spelled for Ask {
     ghost bytes = { λ a. spelling ASK (ask_said a) };
 
     ghost is_well = { IsWellAsk };
+
+    ghost fits = { λ a. Fits ASK (ask_said a) };
 
     ghost most = { 2 ^ 20 };
 

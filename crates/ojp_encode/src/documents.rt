@@ -7,6 +7,7 @@ ghost use Rattle.ojp_outside.specs.Causes.{HasCause};
 ghost use Rattle.ojp_outside.specs.Known.{AppendsPrefix};
 ghost use Rattle.ojp_grammar.specs.Items.{spell};
 ghost use Rattle.ojp_grammar.specs.Documents.{items};
+ghost use Rattle.ojp_grammar.specs.Documents as grammar;
 ghost use Rattle.ojp_encode.specs.Writing.{Writes};
 
 use crate::lists::put_around;
@@ -24,6 +25,7 @@ pub fn write<S: Sink>(doc: &Doc, sink: &mut S) -> Result<(), WriteFault>
     requires { IsWell doc.now }
     ensures ok { OnOk result (Appends (S.written sink.old) (S.written sink.new) (spell (items doc.now))) }
     ensures err { OnErr result (AppendsPrefix (S.written sink.old) (S.written sink.new) (spell (items doc.now))) }
+    ensures well { OnOk result (grammar.IsWell doc.now) }
     ensures cause { HasCause (S.faults sink.old) (S.faults sink.new) result }
 {
     doc.put(sink)
@@ -41,6 +43,8 @@ impl Spelled for Doc {
     ghost bytes = { λ d. spell (items d) };
 
     ghost is_well = { IsWell };
+
+    ghost fits = { grammar.IsWell };
 
     ghost most = { 2 ^ 41 };
 

@@ -1,5 +1,6 @@
 //! Faults.
 
+ghost use Rattle.ojp_grammar.specs.Syntax.{Fits};
 ghost use Rattle.ojp_grammar.specs.Grammar.{FAULT};
 ghost use Rattle.ojp_grammar.specs.Documents.{fault_said};
 ghost use Rattle.ojp_encode.specs.Writing.{Writes, spelling};
@@ -9,6 +10,7 @@ use crate::lists::put;
 use crate::markup::*;
 use crate::spelled::Spelled;
 use ojp_outside::{Sink, WriteFault};
+use ojp_tables::put_tag;
 use ojp_values::Fault;
 
 impl Spelled for Fault {
@@ -16,27 +18,29 @@ impl Spelled for Fault {
 
     ghost is_well = { λ _. Unit {0} };
 
+    ghost fits = { λ f. Fits FAULT (fault_said f) };
+
     ghost most = { 1_024 };
 
     fn put<S: Sink>(&self, sink: &mut S) -> Result<(), WriteFault> {
         match self {
             Fault::SameStop(stop) => {
                 let stop = stop.text();
-                put(sink, &[SAME_STOP_START, stop, FAULT_END])
+                put_tag!(put, sink; SAME_STOP_START, stop, FAULT_END)
             }
             Fault::StopUnknown(stop) => {
                 let stop = stop.text();
-                put(sink, &[STOP_UNKNOWN_START, stop, FAULT_END])
+                put_tag!(put, sink; STOP_UNKNOWN_START, stop, FAULT_END)
             }
             Fault::NoTrip(stop) => {
                 let stop = stop.text();
-                put(sink, &[NO_TRIP_START, stop, FAULT_END])
+                put_tag!(put, sink; NO_TRIP_START, stop, FAULT_END)
             }
             Fault::RegionFailed(code) => {
                 let code = code.text();
-                put(sink, &[REGION_FAILED_START, code, FAULT_END])
+                put_tag!(put, sink; REGION_FAILED_START, code, FAULT_END)
             }
-            Fault::NotServed => put(sink, &[NOT_SERVED_FAULT]),
+            Fault::NotServed => put_tag!(put, sink; NOT_SERVED_FAULT),
         }
     }
 

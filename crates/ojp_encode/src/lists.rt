@@ -1,6 +1,6 @@
 //! Markup and fields, and what stands between them.
 
-ghost use Rattle.std.specs.Prelude.{◌++◌};
+ghost use Rattle.std.specs.Prelude.{◌++◌, All, OnOk};
 ghost use Rattle.std.specs.List.{flat_map};
 ghost use Rattle.ojp_encode.specs.Writing.{Writes};
 
@@ -22,8 +22,10 @@ pub fn put_around<S: Sink, T: Spelled>(
     inner: &T,
     behind: &[u8],
 ) -> Result<(), WriteFault>
-    ensures { Writes (S.written sink.old) (S.written sink.new) (S.faults sink.old) (S.faults sink.new)
+    requires { T.is_well inner.now }
+    ensures spelled { Writes (S.written sink.old) (S.written sink.new) (S.faults sink.old) (S.faults sink.new)
         (flat_map (λ part. part.now) before.now ++ (T.bytes inner.now ++ behind.now)) result }
+    ensures fits { OnOk result (T.fits inner.now) }
 {
     put(sink, before)?;
     inner.put(sink)?;
@@ -37,8 +39,10 @@ pub fn put_list<S: Sink, T: Spelled>(
     items: &[T],
     behind: &[u8],
 ) -> Result<(), WriteFault>
-    ensures { Writes (S.written sink.old) (S.written sink.new) (S.faults sink.old) (S.faults sink.new)
+    requires { All T.is_well items.now }
+    ensures spelled { Writes (S.written sink.old) (S.written sink.new) (S.faults sink.old) (S.faults sink.new)
         (flat_map (λ part. part.now) before.now ++ (flat_map T.bytes items.now ++ behind.now)) result }
+    ensures fits { OnOk result (All T.fits items.now) }
 {
     put(sink, before)?;
     put_each(sink, items)?;
@@ -47,8 +51,10 @@ pub fn put_list<S: Sink, T: Spelled>(
 
 /// Writes the items one after another.
 fn put_each<S: Sink, T: Spelled>(sink: &mut S, items: &[T]) -> Result<(), WriteFault>
-    ensures { Writes (S.written sink.old) (S.written sink.new) (S.faults sink.old) (S.faults sink.new)
+    requires { All T.is_well items.now }
+    ensures spelled { Writes (S.written sink.old) (S.written sink.new) (S.faults sink.old) (S.faults sink.new)
         (flat_map T.bytes items.now) result }
+    ensures fits { OnOk result (All T.fits items.now) }
 {
     for item in items {
         item.put(sink)?;

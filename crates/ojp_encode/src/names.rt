@@ -1,7 +1,7 @@
 //! Names as documents spell them, with `&`, `<` and `>` escaped.
 
-ghost use Rattle.std.specs.Prelude.{◌≡◌, ◌≤◌, ◌+◌, ◌++◌, length};
-ghost use Rattle.ojp_values.specs.Texts.{escaped};
+ghost use Rattle.std.specs.Prelude.{◌≡◌, ◌≤◌, ◌+◌, ◌++◌, IsTrue, length};
+ghost use Rattle.ojp_values.specs.Texts.{escaped, is_name};
 
 use arrayvec::ArrayVec;
 use ojp_values::Name;
@@ -14,6 +14,7 @@ pub type Room = ArrayVec<u8, 512>;
 pub fn escape<'a>(name: &Name, room: &'a mut Room) -> &'a [u8]
     ensures value { result.now ≡ escaped name.now }
     ensures short { length result.now ≤ 512 }
+    ensures well { IsTrue (is_name name.now) }
 {
     room.clear();
     let mut rest = name.text();

@@ -2,6 +2,7 @@
 
 ghost use Rattle.std.specs.Prelude.{◌^◌};
 ghost use Rattle.ojp_values.specs.Limits.{IsWellNeighbour, IsWellPoint};
+ghost use Rattle.ojp_grammar.specs.Syntax.{Fits};
 ghost use Rattle.ojp_grammar.specs.Grammar.{NEIGHBOUR, POINT};
 ghost use Rattle.ojp_grammar.specs.Documents.{neighbour_said, point_said};
 ghost use Rattle.ojp_encode.specs.Writing.{Writes, spelling};
@@ -12,6 +13,7 @@ use crate::markup::*;
 use crate::spelled::Spelled;
 use itoa::Buffer;
 use ojp_outside::{Sink, WriteFault};
+use ojp_tables::put_tag;
 use ojp_values::{Neighbour, Point};
 
 impl Spelled for Neighbour {
@@ -19,16 +21,15 @@ impl Spelled for Neighbour {
 
     ghost is_well = { IsWellNeighbour };
 
+    ghost fits = { λ n. Fits NEIGHBOUR (neighbour_said n) };
+
     ghost most = { 1_024 };
 
     fn put<S: Sink>(&self, sink: &mut S) -> Result<(), WriteFault> {
         let mut digits = Buffer::new();
         let code = self.code.text();
         let change = digits.format(self.change).as_bytes();
-        put(
-            sink,
-            &[NEIGHBOUR_START, code, CODE_CHANGE, change, NEIGHBOUR_END],
-        )
+        put_tag!(put, sink; NEIGHBOUR_START, code, CODE_CHANGE, change, NEIGHBOUR_END)
     }
 
     fn length(&self) -> u64 {
@@ -40,6 +41,8 @@ impl Spelled for Point {
     ghost bytes = { λ p. spelling POINT (point_said p) };
 
     ghost is_well = { IsWellPoint };
+
+    ghost fits = { λ p. Fits POINT (point_said p) };
 
     ghost most = { 2 ^ 16 };
 

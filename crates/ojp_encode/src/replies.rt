@@ -2,6 +2,7 @@
 
 ghost use Rattle.std.specs.Prelude.{◌^◌};
 ghost use Rattle.ojp_values.specs.Limits.{IsWellTripReply, IsWellResult, IsWellMultiReply, IsWellEventsReply, IsWellPointsReply, IsWellDelivery};
+ghost use Rattle.ojp_grammar.specs.Syntax.{Fits};
 ghost use Rattle.ojp_grammar.specs.Grammar.{TRIP_DELIVERY, MULTI_RESULT, MULTI_DELIVERY, EVENT_DELIVERY, POINTS_DELIVERY, REPLY};
 ghost use Rattle.ojp_grammar.specs.Documents.{trip_reply_said, result_said, multi_reply_said, events_reply_said, points_reply_said, reply_said};
 ghost use Rattle.ojp_encode.specs.Writing.{Writes, spelling};
@@ -11,12 +12,15 @@ use crate::lists::{put, put_around, put_list};
 use crate::markup::*;
 use crate::spelled::Spelled;
 use ojp_outside::{Sink, WriteFault};
+use ojp_tables::put_tag;
 use ojp_values::{Delivery, EventsReply, MultiReply, PointsReply, TripReply, TripResult};
 
 impl Spelled for TripReply {
     ghost bytes = { λ r. spelling TRIP_DELIVERY (trip_reply_said r) };
 
     ghost is_well = { IsWellTripReply };
+
+    ghost fits = { λ r. Fits TRIP_DELIVERY (trip_reply_said r) };
 
     ghost most = { 2 ^ 31 };
 
@@ -45,6 +49,8 @@ impl Spelled for TripResult {
 
     ghost is_well = { IsWellResult };
 
+    ghost fits = { λ r. Fits MULTI_RESULT (result_said r) };
+
     ghost most = { 2 ^ 31 };
 
     fn put<S: Sink>(&self, sink: &mut S) -> Result<(), WriteFault> {
@@ -52,7 +58,7 @@ impl Spelled for TripResult {
             TripResult::Trip(trip) => put_around(sink, &[RESULT_START], trip, RESULT_END),
             TripResult::NoTrip(stop) => {
                 let stop = stop.text();
-                put(sink, &[RESULT_NO_TRIP, stop, RESULT_NO_TRIP_END])
+                put_tag!(put, sink; RESULT_NO_TRIP, stop, RESULT_NO_TRIP_END)
             }
         }
     }
@@ -69,6 +75,8 @@ impl Spelled for MultiReply {
     ghost bytes = { λ r. spelling MULTI_DELIVERY (multi_reply_said r) };
 
     ghost is_well = { IsWellMultiReply };
+
+    ghost fits = { λ r. Fits MULTI_DELIVERY (multi_reply_said r) };
 
     ghost most = { 2 ^ 40 };
 
@@ -103,6 +111,8 @@ impl Spelled for EventsReply {
 
     ghost is_well = { IsWellEventsReply };
 
+    ghost fits = { λ r. Fits EVENT_DELIVERY (events_reply_said r) };
+
     ghost most = { 2 ^ 40 };
 
     fn put<S: Sink>(&self, sink: &mut S) -> Result<(), WriteFault> {
@@ -131,6 +141,8 @@ impl Spelled for PointsReply {
 
     ghost is_well = { IsWellPointsReply };
 
+    ghost fits = { λ r. Fits POINTS_DELIVERY (points_reply_said r) };
+
     ghost most = { 2 ^ 40 };
 
     fn put<S: Sink>(&self, sink: &mut S) -> Result<(), WriteFault> {
@@ -158,6 +170,8 @@ impl Spelled for Delivery {
     ghost bytes = { λ r. spelling REPLY (reply_said r) };
 
     ghost is_well = { IsWellDelivery };
+
+    ghost fits = { λ r. Fits REPLY (reply_said r) };
 
     ghost most = { 2 ^ 40 };
 

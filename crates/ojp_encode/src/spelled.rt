@@ -1,6 +1,6 @@
 //! What documents are made of.
 
-ghost use Rattle.std.specs.Prelude.{◌≡◌, ◌≤◌, ℕ, List, length};
+ghost use Rattle.std.specs.Prelude.{◌≡◌, ◌≤◌, ℕ, List, OnOk, length};
 ghost use Rattle.ojp_encode.specs.Writing.{Writes};
 
 use ojp_outside::{Sink, WriteFault};
@@ -13,13 +13,18 @@ pub trait Spelled {
     /// Its numbers and the lengths of its lists are within their limits.
     ghost is_well: { Self → Type 0 };
 
+    /// Each field and the length of each list are within the limits of its shape.
+    ghost fits: { Self → Type 0 };
+
     /// No more bytes spell it.
     ghost most: { ℕ };
 
     /// Writes it.
     fn put<S: Sink>(&self, sink: &mut S) -> Result<(), WriteFault>
-        ensures { Writes (S.written sink.old) (S.written sink.new) (S.faults sink.old) (S.faults sink.new)
-            (bytes self.now) result };
+        requires { is_well self.now }
+        ensures spelled { Writes (S.written sink.old) (S.written sink.new) (S.faults sink.old) (S.faults sink.new)
+            (bytes self.now) result }
+        ensures fits { OnOk result (fits self.now) };
 
     /// The number of bytes that spell it.
     fn length(&self) -> u64

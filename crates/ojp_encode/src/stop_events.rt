@@ -1,5 +1,6 @@
 //! Stop events.
 
+ghost use Rattle.ojp_grammar.specs.Syntax.{Fits};
 ghost use Rattle.ojp_grammar.specs.Grammar.{EVENT};
 ghost use Rattle.ojp_grammar.specs.Documents.{event_said};
 ghost use Rattle.ojp_encode.specs.Writing.{Writes, spelling};
@@ -10,12 +11,15 @@ use crate::markup::*;
 use crate::spelled::Spelled;
 use itoa::Buffer;
 use ojp_outside::{Sink, WriteFault};
+use ojp_tables::put_tag;
 use ojp_values::Event;
 
 impl Spelled for Event {
     ghost bytes = { λ e. spelling EVENT (event_said e) };
 
     ghost is_well = { λ _. Unit {0} };
+
+    ghost fits = { λ e. Fits EVENT (event_said e) };
 
     ghost most = { 4_096 };
 
@@ -28,25 +32,9 @@ impl Spelled for Event {
         let journey = self.journey.text();
         let line = self.line.text();
         let region = self.region.text();
-        put(
-            sink,
-            &[
-                EVENT_START,
-                stop,
-                STOP_ORDER,
-                order,
-                ORDER_TIME,
-                moment,
-                TIME_SERVICE,
-                day,
-                DAY_JOURNEY,
-                journey,
-                JOURNEY_LINE,
-                line,
-                LINE_REGION,
-                region,
-                EVENT_END,
-            ],
+        put_tag!(put, sink;
+            EVENT_START, stop, STOP_ORDER, order, ORDER_TIME, moment, TIME_SERVICE, day,
+            DAY_JOURNEY, journey, JOURNEY_LINE, line, LINE_REGION, region, EVENT_END
         )
     }
 

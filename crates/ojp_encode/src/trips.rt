@@ -2,6 +2,7 @@
 
 ghost use Rattle.std.specs.Prelude.{◌^◌};
 ghost use Rattle.ojp_values.specs.Limits.{IsWellTrip};
+ghost use Rattle.ojp_grammar.specs.Syntax.{Fits};
 ghost use Rattle.ojp_grammar.specs.Grammar.{LEG, TRIP};
 ghost use Rattle.ojp_grammar.specs.Documents.{leg_said, trip_said};
 ghost use Rattle.ojp_encode.specs.Writing.{Writes, spelling};
@@ -15,12 +16,15 @@ use crate::names::{Room, escape};
 use crate::spelled::Spelled;
 use itoa::Buffer;
 use ojp_outside::{Sink, WriteFault};
+use ojp_tables::put_tag;
 use ojp_values::{Leg, Trip};
 
 impl Spelled for Leg {
     ghost bytes = { λ l. spelling LEG (leg_said l) };
 
     ghost is_well = { λ _. Unit {0} };
+
+    ghost fits = { λ l. Fits LEG (leg_said l) };
 
     ghost most = { 8_192 };
 
@@ -37,31 +41,10 @@ impl Spelled for Leg {
         let journey = self.journey.text();
         let line = self.line.text();
         let region = self.region.text();
-        put(
-            sink,
-            &[
-                LEG_START,
-                board,
-                STOP_NAME,
-                board_name,
-                NAME_TIME,
-                departs,
-                BOARD_ALIGHT,
-                alight,
-                STOP_NAME,
-                alight_name,
-                NAME_TIME,
-                arrives,
-                ALIGHT_SERVICE,
-                day,
-                DAY_JOURNEY,
-                journey,
-                JOURNEY_LINE,
-                line,
-                LINE_REGION,
-                region,
-                LEG_END,
-            ],
+        put_tag!(put, sink;
+            LEG_START, board, STOP_NAME, board_name, NAME_TIME, departs, BOARD_ALIGHT, alight,
+            STOP_NAME, alight_name, NAME_TIME, arrives, ALIGHT_SERVICE, day, DAY_JOURNEY, journey,
+            JOURNEY_LINE, line, LINE_REGION, region, LEG_END
         )
     }
 
@@ -77,6 +60,8 @@ impl Spelled for Trip {
     ghost bytes = { λ t. spelling TRIP (trip_said t) };
 
     ghost is_well = { IsWellTrip };
+
+    ghost fits = { λ t. Fits TRIP (trip_said t) };
 
     ghost most = { 2 ^ 30 };
 

@@ -16,3 +16,4 @@ pub mod Built
 pub mod Rebuilt
 pub mod Unique
 pub mod Spellings
+pub mod OnePlace

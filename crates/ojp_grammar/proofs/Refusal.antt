@@ -35,7 +35,7 @@ stands : (want : Want) (start : List Syntax) (front rest : List Item) → Means 
 stands want start front rest means h =
     let d = means.accepted (front ++ rest) h in record { doc = d.doc; wanted = d.wanted; parts = d.parts }
 
-accepted_of : (want : Want) (start : List Syntax) (front rest : List Item) → Means want start → Stands want front rest → Accepts (front ++ rest) start
+pub accepted_of : (want : Want) (start : List Syntax) (front rest : List Item) → Means want start → Stands want front rest → Accepts (front ++ rest) start
 accepted_of want start front rest means s =
     let P : List Item → Type 0 = λ w. Accepts w start in subst P s.parts (means.accepts s.doc s.wanted)
 

@@ -10,6 +10,7 @@ ghost use Rattle.ojp_grammar.specs.Parts.{either_says};
 
 use crate::cursor::{Left, Unbuilt, closing_of, text_of};
 use crate::fields::{FieldValue, read_field};
+use ojp_tables::take_tag;
 use ojp_values::kinds::Kind;
 use ojp_values::lists::List;
 use std::alloc::Global;
@@ -61,7 +62,7 @@ impl<const NAME: u8> Part for Text<NAME> {
     }
 
     fn build(alloc: Global, left: &mut Left<'_>) -> Result<Text<NAME>, Unbuilt> {
-        left.skip(text_of(NAME).len());
+        take_tag!(left; text_of(NAME));
         Ok(Text)
     }
 }
@@ -80,7 +81,7 @@ impl<const NAME: u8> Part for Close<NAME> {
     }
 
     fn build(alloc: Global, left: &mut Left<'_>) -> Result<Close<NAME>, Unbuilt> {
-        left.skip(closing_of(NAME).len());
+        take_tag!(left; closing_of(NAME));
         Ok(Close)
     }
 }
@@ -150,10 +151,10 @@ impl<const NAME: u8, A: Part> Part for Element<NAME, A> {
     }
 
     fn build(alloc: Global, left: &mut Left<'_>) -> Result<Element<NAME, A>, Unbuilt> {
-        left.skip(text_of(NAME).len());
+        take_tag!(left; text_of(NAME));
         match A::build(alloc, left) {
             Ok(content) => {
-                left.skip(closing_of(NAME).len());
+                take_tag!(left; closing_of(NAME));
                 Ok(Element(content))
             }
             Err(unbuilt) => Err(unbuilt),
@@ -175,10 +176,9 @@ impl<const NAME: u8, T: Held> Part for Leaf<NAME, T> {
     }
 
     fn build(alloc: Global, left: &mut Left<'_>) -> Result<Leaf<NAME, T>, Unbuilt> {
-        left.skip(text_of(NAME).len());
+        take_tag!(left; text_of(NAME));
         let run = left.run();
-        left.skip(run.len());
-        left.skip(closing_of(NAME).len());
+        take_tag!(left; run, closing_of(NAME));
         let Some(value) = read_field(T::kind(), run) else {
             return Err(Unbuilt::Mismatch);
         };

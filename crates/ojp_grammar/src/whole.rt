@@ -56,7 +56,11 @@ fn refused(at: usize, reason: Reason) -> WholeRefused
 }
 
 /// The document that bytes spell which are known to spell one.
-fn build(alloc: Global, want: Want, bytes: &[u8]) -> Result<Doc, WholeRefused>
+///
+/// # Errors
+///
+/// `NoMemory` alone.
+pub fn build(alloc: Global, want: Want, bytes: &[u8]) -> Result<Doc, WholeRefused>
     requires { IsWhole want bytes.now }
     ensures document { IfOk result (λ doc. IsWanted want doc × Spells doc bytes.now) }
     ensures err { IfErr result (λ refused. refused ≡ WholeRefused.NoMemory) }

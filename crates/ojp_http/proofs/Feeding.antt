@@ -1,23 +1,21 @@
 -- Many steps: what was taken, and what is left of the limits.
-use Rattle.std.proofs.Common.{◌≡◌, ℕ, ◌+◌, ◌-◌, ◌*◌, ◌≤◌, ◌<◌, Bool, true, false, List, [], ◌∷◌, ◌++◌, length, take, drop, refl, sym, ap, ◌∙◌, arith, append_assoc, append-nil, subst, length-append, suc, zero, Option, Some, None, Result, Ok, Err, take-append-drop, unwrap_or, inl, inr, ◌⊎◌}
+use Rattle.std.proofs.Common.{◌≡◌, ℕ, ◌+◌, ◌≤◌, true, false, List, [], ◌∷◌, ◌++◌, length, take, drop, refl, sym, ap, ◌∙◌, arith, append_assoc, append-nil, subst, length-append, Option, Some, None, Err, take-append-drop, inl, inr, ◌⊎◌}
 use Rattle.std.specs.Prelude.{◌≢◌}
-use Rattle.std.proofs.lemmas.List.{drop-drop, take-append-le, length-take, length-drop}
+use Rattle.std.proofs.lemmas.List.{length-drop}
 use Rattle.std.proofs.Math.Seq.{take-add}
-use Rattle.httparse.specs.Grammar.{RequestHead, ReadsRequest, ResponseHead, ReadsResponse}
 use Rattle.ojp_http.specs.declared.refusal.Refusal.{Refusal}
-use Rattle.ojp_http.specs.declared.refusal.Refusal.TheVariants as refusals
 use Rattle.ojp_http.specs.declared.machine.Place.{Place}
 use Rattle.ojp_http.specs.declared.machine.Place.TheVariants.{Head, ReplyHead, Content, Line, Data, Return, Trailing, Whole}
 use Rattle.ojp_http.specs.declared.machine.Framing.{Framing}
 use Rattle.ojp_http.specs.declared.machine.Stop.{Stop}
 use Rattle.ojp_http.specs.declared.machine.Stop.TheVariants.{Refused, NoMemory}
 use Rattle.ojp_http.specs.declared.scan.Scan.{Scan}
-use Rattle.ojp_http.specs.Verdicts.{Verdict, whole, refused, cut, after}
-use Rattle.ojp_http.specs.Heads.{HasNoHead, IsFull, Begins}
-use Rattle.ojp_http.specs.Bodies.{Ends, Takes, EndsChunk, Chunks, Trailer, ReadsTrailer, Asks, Replies, ReadsLine, Sized, ReadsLines, has_no_feed}
-use Rattle.ojp_http.specs.Machine.{ReadsAt, Reads, IsOpenAt, IsOpen, IsCounted, work_at, room_at, limit_at, SpendsBy, Spends, Moves, Goes, Took, Advances, Steps, Feeds, is_whole_at}
+use Rattle.ojp_http.specs.Verdicts.{Verdict, refused, cut, after}
+use Rattle.ojp_http.specs.Heads.{Begins}
+use Rattle.ojp_http.specs.Bodies.{Takes, EndsChunk, Chunks, Trailer, Asks, Replies, ReadsLine}
+use Rattle.ojp_http.specs.Machine.{ReadsAt, Reads, IsOpenAt, IsOpen, limit_at, SpendsBy, Moves, Goes, Took, Advances, Steps, Feeds, is_whole_at}
 use Rattle.ojp_http.proofs.MachineFacts.{after-nil}
-use Rattle.ojp_http.proofs.Stepping.{after-append, short_kept}
+use Rattle.ojp_http.proofs.Stepping.{after-append}
 
 -- ---- spending
 

@@ -1,12 +1,8 @@
 -- Counts and values of fields, one field more, and numbers, one digit more.
-use Rattle.std.proofs.Common.{◌≡◌, ℕ, ◌+◌, ◌*◌, ◌^◌, ◌-◌, ◌≤◌, ◌<◌, Bool, true, false, IsTrue, List, [], ◌∷◌, ◌++◌, length, map, take, drop, get_or, refl, sym, ap, ◌∙◌, if◌then◌else◌, arith, suc, count_by}
+use Rattle.std.proofs.Common.{◌≡◌, ℕ, ◌+◌, ◌*◌, ◌^◌, ◌≤◌, ◌<◌, List, [], ◌∷◌, length, drop, get_or, ap, arith, suc}
 use Rattle.std.proofs.Math.Seq.{drop-cons}
 use Rattle.std.specs.Str.Parse.{digits_value_after}
 use Rattle.std.specs.Char.{digit_value}
-use Rattle.std.proofs.lemmas.List.{take_more, map-append}
-use Rattle.httparse.specs.declared.spans.HeaderSpan.{HeaderSpan}
-use Rattle.httparse.specs.Spans.{header_bytes}
-use Rattle.ojp_http.specs.Fields.{count_named, value_named, is_same}
 
 -- more digits do not lower a number
 pub digits_value_after-le : (n : ℕ) (digits : List ℕ) → n ≤ digits_value_after 10 n digits

@@ -1,11 +1,10 @@
 -- Heads at their newest byte, the same for requests, replies and trailers.
-use Rattle.std.proofs.Common.{◌≡◌, ℕ, ◌+◌, ◌≤◌, ◌<◌, ◌⊎◌, Bool, true, false, List, [], ◌∷◌, ◌++◌, length, refl, sym, ap, ◌∙◌, arith, append_assoc, append-nil, subst, inl, inr, length-append, suc, nat_le, ◌||◌, ◌&&◌}
-use Rattle.httparse.specs.Grammar.{Field, LineEnd, print_blank, print_end, lf}
+use Rattle.std.proofs.Common.{◌≡◌, ℕ, ◌+◌, ◌≤◌, ◌<◌, ◌⊎◌, Bool, true, false, List, [], ◌∷◌, ◌++◌, length, refl, sym, ap, ◌∙◌, arith, append_assoc, append-nil, subst, inl, inr, length-append, nat_le, ◌||◌, ◌&&◌}
+use Rattle.httparse.specs.Grammar.{Field, print_blank, print_end, lf}
 use Rattle.ojp_http.specs.declared.scan.Scan.{Scan}
-use Rattle.ojp_http.specs.declared.outcome.HeadOutcome.{HeadOutcome}
 use Rattle.ojp_http.specs.declared.outcome.HeadOutcome.TheVariants.{Found, Malformed, TooLarge, More}
 use Rattle.ojp_http.specs.Scanned.{no_lines, scan_from, is_full_by}
-use Rattle.ojp_http.specs.Heads.{IsFullAt, IsFull, IsWithin, HasHead, HasNoHead, IsMalformed, counted_lines}
+use Rattle.ojp_http.specs.Heads.{IsFullAt, IsFull, IsWithin}
 use Rattle.ojp_http.specs.Outcomes.{HasGrown, Decides}
 use Rattle.std.proofs.lemmas.List.{append_cancel_right}
 use Rattle.ojp_http.specs.declared.scan.Begun.TheVariants.{Nothing}

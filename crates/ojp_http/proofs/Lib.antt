@@ -11,3 +11,4 @@ pub mod MachineFacts
 pub mod Scans
 pub mod Stepping
 pub mod Unique
+pub mod WholeMessages

@@ -1,5 +1,5 @@
 -- How the machine moves from place to place.
-use Rattle.std.proofs.Common.{◌≡◌, ℕ, ◌+◌, ◌-◌, ◌*◌, ◌≤◌, ◌<◌, ◌⊎◌, Bool, true, false, List, [], ◌∷◌, ◌++◌, length, refl, sym, ap, ◌∙◌, arith, append_assoc, append-nil, subst, inl, inr, length-append, suc, zero, Option, Some, None, if◌then◌else◌, nat_le, nat_lt, ◌&&◌, not, map}
+use Rattle.std.proofs.Common.{◌≡◌, ℕ, ◌+◌, ◌-◌, ◌*◌, ◌≤◌, ◌<◌, Bool, true, false, List, [], ◌∷◌, ◌++◌, length, refl, sym, ap, ◌∙◌, arith, subst, inl, inr, suc, zero, Option, Some, None, if◌then◌else◌, nat_le, nat_lt, ◌&&◌, not, map}
 use Rattle.std.specs.Prelude.{◌==◌, ◌≢◌}
 use Rattle.std.specs.Str.Parse.{digits_value}
 use lib.Dec.{eqb-suc-zero}
@@ -12,9 +12,9 @@ use Rattle.ojp_http.specs.declared.machine.Place.{Place}
 use Rattle.ojp_http.specs.declared.machine.Place.TheVariants.{Head, ReplyHead, Content, Line, Data, Return, Trailing, Whole}
 use Rattle.ojp_http.specs.declared.machine.Framing.{Framing}
 use Rattle.ojp_http.specs.Verdicts.{Verdict, whole, refused, cut, after}
-use Rattle.ojp_http.specs.Heads.{HasHead, HasNoHead, IsFull, IsFullAt}
-use Rattle.ojp_http.specs.Bodies.{Ends, Takes, EndsChunk, Chunks, Trailer, Sized, room_after, IsAbove, Frames, has_no_feed, ReadsTrailer, Asks, Replies}
-use Rattle.ojp_http.specs.Machine.{content_left, chunk_left, chunk_start, ReadsAt, IsOpenAt, work_at, room_at, SpendsBy, IsCounted, FrameSpends, SizedSpends, IsCountedBy, IsBounded, FollowsFrame, Begins, IsNewRequest, IsNewReply}
+use Rattle.ojp_http.specs.Heads.{HasNoHead, IsFull, IsFullAt}
+use Rattle.ojp_http.specs.Bodies.{Ends, Takes, EndsChunk, Chunks, Trailer, Sized, room_after, IsAbove, has_no_feed, ReadsTrailer, Asks, Replies}
+use Rattle.ojp_http.specs.Machine.{content_left, chunk_left, chunk_start, ReadsAt, IsOpenAt, work_at, room_at, SpendsBy, FrameSpends, SizedSpends, IsCountedBy, IsBounded, FollowsFrame, Begins, IsNewRequest, IsNewReply}
 use Rattle.ojp_http.specs.Scanned.{no_lines, scan_from}
 use Rattle.ojp_http.specs.declared.scan.Scan.{Scan}
 use Rattle.ojp_http.proofs.Headed.{Grammar}

@@ -1,6 +1,6 @@
 -- A reply in pieces.
-use Rattle.std.proofs.Common.{◌≡◌, ℕ, Bool, true, false, List, [], ◌++◌, length, take, refl, sym, ap, ◌∙◌, append_assoc, append-nil, subst, Result, Ok, Err, ◌≤◌}
-use Rattle.std.specs.Prelude.{◌≢◌}
+use Rattle.std.proofs.Common.{◌≡◌, ℕ, true, false, List, [], ◌∷◌, ◌++◌, length, take, refl, sym, ap, ◌∙◌, append_assoc, append-nil, subst, Result, Ok, Err, ◌≤◌}
+use Rattle.std.specs.Prelude.{◌≢◌, ◌==◌}
 use Rattle.ojp_http.specs.declared.fed.ReplyFed.{ReplyFed}
 use Rattle.ojp_http.specs.declared.fed.ReplyFed.TheVariants as fed
 use Rattle.ojp_http.specs.declared.fed.ReplyRefused.{ReplyRefused}
@@ -12,12 +12,13 @@ use Rattle.ojp_http.specs.declared.machine.Place.TheVariants as places
 use Rattle.ojp_http.specs.declared.machine.Framing.{Framing}
 use Rattle.ojp_http.specs.declared.machine.Stop.{Stop}
 use Rattle.ojp_http.specs.declared.machine.Stop.TheVariants.{Refused, NoMemory}
-use Rattle.ojp_http.specs.Verdicts.{Verdict, whole, refused, cut, after}
+use Rattle.ojp_http.specs.Verdicts.{Verdict, whole, refused, after}
 use Rattle.ojp_http.specs.Bodies.{Replies}
+use Rattle.ojp_http.specs.Asking.{HttpReply}
 use Rattle.ojp_http.specs.Machine.{ReadsAt, Reads, IsOpenAt, IsNewReply, Took, Feeds, is_whole_at}
-use Rattle.ojp_http.specs.Replying.{ReplyView, HasTaken, HasFed, ReadsOn, Answers, IsRefused, BeginsNoReply, refusal_at}
+use Rattle.ojp_http.specs.Replying.{ReplyView, HasTaken, HasFed, ReadsOn, Answers, BeginsNoReply, refusal_at}
 use Rattle.ojp_http.specs.declared.refusal.Refusal.{Refusal}
-use Rattle.ojp_http.proofs.Unique.{replies_only}
+use Rattle.ojp_http.proofs.WholeMessages.{replies_only, beginning_law}
 use Rattle.ojp_http.proofs.MachineFacts.{after-nil}
 use Rattle.ojp_http.proofs.Stepping.{after-append}
 use Rattle.ojp_http.proofs.Feeding.{whole_place}
@@ -49,6 +50,25 @@ open_new f n = (n.ready, not_whole f.place n.unfinished)
 -- where the bytes are refused, no reply begins with them
 begins_none : (bytes : List ℕ) (e : Refusal) → ((rest : List ℕ) → Replies (bytes ++ rest) (refused e)) → BeginsNoReply bytes
 begins_none bytes e decided more body x = let same : refused e ≡ whole body [] = replies_only (bytes ++ more) body [] (refused e) x (decided more) in cc
+
+none_before : (a b : List ℕ) → a ++ b ≡ [] → a ≡ []
+none_before [] b e = refl
+none_before (x ∷ a) b e = absurd (cc)
+
+-- no reply begins with a whole one and more bytes
+begins_longer : (bytes got piece : List ℕ) → HttpReply bytes got → piece ≢ [] → BeginsNoReply (bytes ++ piece)
+begins_longer bytes got piece x some more body y =
+    some (none_before piece more (beginning_law bytes (piece ++ more) got body x (subst (λ (l : List ℕ). HttpReply l body) (append_assoc bytes piece more) y)))
+
+not_nil : (piece : List ℕ) → (length piece == 0) ≡ false → piece ≢ []
+not_nil piece some e = let x : true ≡ false = ap (λ (l : List ℕ). length l == 0) (sym e) ∙ some in cc
+
+-- a piece behind a whole reply
+pub feeds_behind : (f : Framing) (old : ReplyView) (bytes got piece before : List ℕ) → old ≡ view_of Whole f → (length piece == 0) ≡ false
+    → HasFed old bytes got → Answers old (view_of (Over refused_as.Bad) f) bytes got piece before before (Err refused_as.Bad)
+feeds_behind f old bytes got piece before is some h =
+    subst (λ (o : ReplyView). HasFed o bytes got → Answers o (view_of (Over refused_as.Bad) f) bytes got piece before before (Err refused_as.Bad)) (sym is)
+    (λ x. ((refl, not_nil piece some, refl, begins_longer bytes got piece x (not_nil piece some)), refl)) h
 
 module _ (f g : Framing) (bytes got piece items out : List ℕ) where
   whole_core : (used : ℕ) → HasTaken (view_of Reading f) bytes got → Took f g piece items out used → is_whole_at g.place ≡ true

@@ -1,22 +1,21 @@
 -- How far the reading of a request has come.
-use Rattle.std.proofs.Common.{◌≡◌, ℕ, ◌+◌, ◌-◌, ◌≤◌, ◌<◌, Bool, true, false, List, [], ◌∷◌, ◌++◌, length, take, drop, refl, sym, ap, ◌∙◌, arith, append_assoc, append-nil, subst, length-append, Option, Some, None, Result, Ok, Err, take-append-drop, unwrap_or}
+use Rattle.std.proofs.Common.{◌≡◌, ℕ, ◌+◌, ◌≤◌, ◌<◌, true, false, List, [], ◌∷◌, ◌++◌, length, take, drop, refl, sym, ap, ◌∙◌, arith, append_assoc, append-nil, subst, Option, Some, None, Ok, Err, take-append-drop, unwrap_or}
 use Rattle.std.specs.Prelude.{◌≢◌}
 use Rattle.std.specs.Io.KnownBytes.{Consumes, Keeps, IsAtEnd}
 use Rattle.std.proofs.KnownBytes.{Consumes-nil, Consumes-trans, Consumes-kept}
 use Rattle.std.proofs.lemmas.List.{length-take}
-use Rattle.ojp_http.specs.declared.refusal.HttpRefusal.{HttpRefusal}
 use Rattle.ojp_http.specs.declared.refusal.HttpRefusal.TheVariants as answers
 use Rattle.ojp_http.specs.declared.machine.Place.{Place}
-use Rattle.ojp_http.specs.declared.machine.Place.TheVariants.{Head, ReplyHead, Whole}
+use Rattle.ojp_http.specs.declared.machine.Place.TheVariants.{Head, ReplyHead}
 use Rattle.ojp_http.specs.declared.machine.Framing.{Framing}
 use Rattle.ojp_http.specs.declared.machine.Stop.{Stop}
 use Rattle.ojp_http.specs.declared.machine.Stop.TheVariants.{Refused, NoMemory}
-use Rattle.ojp_http.specs.Verdicts.{Verdict, whole, refused, cut, after}
-use Rattle.ojp_http.specs.Asking.{HttpAsk, Allows, http_refusal}
+use Rattle.ojp_http.specs.Verdicts.{whole, refused, cut}
+use Rattle.ojp_http.specs.Asking.{Allows, http_refusal}
 use Rattle.ojp_outside.specs.Known.{LosesPrefix}
 use Rattle.ojp_http.specs.Bodies.{Asks}
 use Rattle.ojp_http.specs.Stops.{refusal_by}
-use Rattle.ojp_http.specs.Machine.{ReadsAt, Reads, IsOpen, IsNewRequest, work_at, room_at, limit_at, SpendsBy, Moves, Goes, Took, Feeds, is_whole_at}
+use Rattle.ojp_http.specs.Machine.{ReadsAt, Reads, IsNewRequest, work_at, room_at, limit_at, SpendsBy, Moves, Took, Feeds, is_whole_at}
 use Rattle.ojp_http.proofs.Feeding.{Moves-none, Moves-then, cut_here, limit_is, whole_place}
 
 -- these bytes were read, and the message is not whole

@@ -1,5 +1,5 @@
 -- What a count of lines says of the lines.
-use Rattle.std.proofs.Common.{◌≡◌, ◌≢◌, ℕ, ◌+◌, ◌≤◌, ◌<◌, ◌⊎◌, Bool, true, false, not, ◌&&◌, ◌||◌, IsTrue, List, [], ◌∷◌, ◌++◌, length, refl, sym, ap, ◌∙◌, if◌then◌else◌, arith, append_assoc, append-nil, inl, inr, subst, length-append, nat_le, suc, zero}
+use Rattle.std.proofs.Common.{◌≡◌, ℕ, ◌+◌, ◌⊎◌, Bool, true, false, not, ◌&&◌, List, [], ◌∷◌, ◌++◌, length, refl, sym, ap, ◌∙◌, if◌then◌else◌, append_assoc, append-nil, inl, inr, subst, length-append, suc}
 use Rattle.std.specs.List.{list_all}
 use Rattle.std.specs.Prelude.{◌==◌}
 use Rattle.std.proofs.lemmas.List.Folds.{list_all-append}
@@ -7,8 +7,8 @@ use lib.Dec.{eqb-suc-zero}
 use Rattle.ojp_http.specs.declared.scan.Begun.{Begun}
 use Rattle.ojp_http.specs.declared.scan.Begun.TheVariants.{Nothing, Return, Other}
 use Rattle.ojp_http.specs.declared.scan.Scan.{Scan}
-use Rattle.ojp_http.specs.Scanned.{no_lines, begun_step, end_by, scan_end, scan_step, scan_from, is_full_by}
-use Rattle.ojp_http.specs.Heads.{lines_after, is_empty_line, without_front, counted_lines, IsFullAt}
+use Rattle.ojp_http.specs.Scanned.{no_lines, begun_step, end_by, scan_end, scan_step, scan_from}
+use Rattle.ojp_http.specs.Heads.{lines_after, is_empty_line, without_front}
 
 pub scan_from-append : (s : Scan) (a b : List ℕ) → scan_from s (a ++ b) ≡ scan_from (scan_from s a) b
 scan_from-append s [] b = refl

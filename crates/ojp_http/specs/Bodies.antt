@@ -1,8 +1,7 @@
 -- Bodies, part by part: each word says how the next part reads, and K what is read behind it.
-use Rattle.std.specs.Prelude.{◌≡◌, ◌≢◌, ◌==◌, not, Bool, IsTrue, ℕ, ◌+◌, ◌<◌, ◌≤◌, ◌⊎◌, zero, suc, ◌-◌, List, [], ◌∷◌, ◌++◌, length, take, Option, Some, None}
+use Rattle.std.specs.Prelude.{◌≡◌, ◌≢◌, ◌==◌, not, Bool, IsTrue, ℕ, ◌<◌, ◌≤◌, zero, suc, ◌-◌, List, [], ◌∷◌, ◌++◌, length, Option, Some, None}
 use Rattle.std.specs.List.{list_all}
 use Rattle.httparse.specs.Grammar.{LineEnd, Field, ReadsSection, ChunkLine, ReadsChunkLine, print_chunk_line, chunk_size, ResponseHead, ReadsResponse, RequestHead, ReadsRequest}
-use Rattle.ojp_http.specs.declared.refusal.Refusal.{Refusal}
 use Rattle.ojp_http.specs.declared.refusal.Refusal.TheVariants as refusals
 use Rattle.ojp_http.specs.declared.refusal.Frame.{Frame}
 use Rattle.ojp_http.specs.declared.refusal.Frame.TheVariants.{Counted, Chunked, Refused}

@@ -3,6 +3,7 @@ pub mod Bodies
 pub mod ChunkLines
 pub mod Fields
 pub mod Heads
+pub mod Laws
 pub mod Machine
 pub mod Outcomes
 pub mod Scanned

@@ -1,5 +1,5 @@
 -- Where the machine stands, by how it reads what is still to come.
-use Rattle.std.specs.Prelude.{◌≢◌, ◌≡◌, IsTrue, ◌==◌, if◌then◌else◌, ℕ, ◌+◌, ◌-◌, ◌*◌, ◌<◌, ◌≤◌, Bool, true, false, List, [], ◌∷◌, ◌++◌, length, take, Option, Some, None, Result, Ok, Err}
+use Rattle.std.specs.Prelude.{◌≢◌, ◌≡◌, ◌==◌, if◌then◌else◌, ℕ, ◌+◌, ◌-◌, ◌*◌, ◌<◌, ◌≤◌, Bool, true, false, List, [], ◌∷◌, ◌++◌, length, take, Option, Some, None, Result, Ok, Err}
 use Rattle.httparse.specs.Grammar.{RequestHead, ReadsRequest, ResponseHead, ReadsResponse}
 use Rattle.ojp_http.specs.declared.machine.Place.{Place}
 use Rattle.ojp_http.specs.declared.machine.Place.TheVariants.{Head, ReplyHead, Content, Line, Data, Return, Trailing, Whole}

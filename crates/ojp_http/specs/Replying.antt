@@ -1,5 +1,5 @@
 -- A reply in pieces, as it is seen from outside.
-use Rattle.std.specs.Prelude.{◌≡◌, ◌≢◌, ℕ, ◌<◌, ◌≤◌, Bool, false, List, [], ◌∷◌, ◌++◌, length, take, Option, Result, Ok, Err}
+use Rattle.std.specs.Prelude.{◌≡◌, ◌≢◌, ℕ, ◌≤◌, false, List, [], ◌++◌, length, take, Option, Result, Ok, Err}
 use Rattle.ojp_http.specs.declared.refusal.Refusal.{Refusal}
 use Rattle.ojp_http.specs.declared.fed.ReplyFed.{ReplyFed}
 use Rattle.ojp_http.specs.declared.fed.ReplyFed.TheVariants as fed
@@ -11,7 +11,7 @@ use Rattle.ojp_http.specs.declared.machine.Place.{Place}
 use Rattle.ojp_http.specs.declared.machine.Stop.{Stop}
 use Rattle.ojp_http.specs.declared.machine.Stop.TheVariants.{Refused, NoMemory}
 use Rattle.ojp_http.specs.declared.scan.Scan.{Scan}
-use Rattle.ojp_http.specs.Verdicts.{Verdict, whole, refused, cut, after}
+use Rattle.ojp_http.specs.Verdicts.{Verdict, refused, after}
 use Rattle.ojp_http.specs.Bodies.{Replies}
 use Rattle.ojp_http.specs.Asking.{HttpReply}
 use Rattle.ojp_http.specs.Machine.{ReadsAt, IsOpenAt, is_whole_at}
@@ -68,16 +68,16 @@ ReadsOn new bytes got piece before after (Ok fed.More) = Grows new bytes got pie
 ReadsOn new bytes got piece before after (Ok (fed.Whole used)) = Grows new bytes got piece before after used × (new.stage ≡ Whole)
 ReadsOn new bytes got piece before after (Err e) = (new.stage ≡ Over e) × (e ≡ refused_as.Bad → IsRefused (bytes ++ piece))
 
--- after a whole reply an empty piece is whole again, and another is bad
-abbrev pub EndsAfter : ReplyView → List ℕ → Result ReplyFed ReplyRefused → Type 0
-EndsAfter new piece (Ok fed.More) = ⊥
-EndsAfter new piece (Ok (fed.Whole used)) = (used ≡ 0) × (piece ≡ []) × (new.stage ≡ Whole)
-EndsAfter new piece (Err e) = (e ≡ refused_as.Bad) × (piece ≢ []) × (new.stage ≡ Over refused_as.Bad)
+-- after a whole reply an empty piece is whole again; another is bad, and no reply begins with all bytes
+abbrev pub EndsAfter : ReplyView → List ℕ → List ℕ → Result ReplyFed ReplyRefused → Type 0
+EndsAfter new bytes piece (Ok fed.More) = ⊥
+EndsAfter new bytes piece (Ok (fed.Whole used)) = (used ≡ 0) × (piece ≡ []) × (new.stage ≡ Whole)
+EndsAfter new bytes piece (Err e) = (e ≡ refused_as.Bad) × (piece ≢ []) × (new.stage ≡ Over refused_as.Bad) × BeginsNoReply (bytes ++ piece)
 
 -- what a piece leads to; a refusal is answered again
 abbrev pub AnswersAt : Stage → ReplyView → List ℕ → List ℕ → List ℕ → List ℕ → List ℕ → Result ReplyFed ReplyRefused → Type 0
 AnswersAt Reading new bytes got piece before after r = ReadsOn new bytes got piece before after r
-AnswersAt Whole new bytes got piece before after r = EndsAfter new piece r × (after ≡ before)
+AnswersAt Whole new bytes got piece before after r = EndsAfter new bytes piece r × (after ≡ before)
 AnswersAt (Over e) new bytes got piece before after r = (r ≡ Err e) × (new.stage ≡ Over e) × (after ≡ before)
 
 -- what a piece leads to, by the stage

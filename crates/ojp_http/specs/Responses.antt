@@ -1,9 +1,7 @@
 -- The bytes of requests and of responses.
-use Rattle.std.specs.Prelude.{◌≡◌, ℕ, ◌==◌, Bool, List, [], ◌∷◌, ◌++◌, if◌then◌else◌, codes, decimal, length, unwrap_or, Option}
+use Rattle.std.specs.Prelude.{ℕ, ◌==◌, Bool, List, [], ◌∷◌, ◌++◌, if◌then◌else◌, codes, decimal, length, unwrap_or}
 use Rattle.std.specs.List.{list_any}
 use Rattle.http.specs.StatusCode.{code_digits, reason_phrase}
-use Rattle.ojp_http.specs.declared.refusal.HttpRefusal.{HttpRefusal}
-use Rattle.ojp_http.specs.declared.refusal.HttpRefusal.TheVariants as refusals
 
 -- the statuses of responses with a body
 abbrev pub is_answer_status : ℕ → Bool

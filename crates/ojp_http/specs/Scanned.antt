@@ -1,5 +1,5 @@
 -- Counting lines byte by byte.
-use Rattle.std.specs.Prelude.{ℕ, ◌+◌, Bool, true, false, not, ◌&&◌, ◌||◌, List, [], ◌∷◌, fold, if◌then◌else◌, ◌==◌, nat_le}
+use Rattle.std.specs.Prelude.{ℕ, ◌+◌, Bool, true, false, not, ◌&&◌, ◌||◌, List, [], ◌∷◌, if◌then◌else◌, ◌==◌, nat_le}
 use Rattle.ojp_http.specs.declared.scan.Begun.{Begun}
 use Rattle.ojp_http.specs.declared.scan.Begun.TheVariants.{Nothing, Return, Other}
 use Rattle.ojp_http.specs.declared.scan.Scan.{Scan}

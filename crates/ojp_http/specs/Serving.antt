@@ -3,7 +3,7 @@ use Rattle.std.specs.Prelude.{◌≡◌, ℕ, List, [], ◌∷◌, ◌++◌, len
 use Rattle.ojp_http.specs.declared.refusal.HttpRefusal.{HttpRefusal}
 use Rattle.ojp_http.specs.declared.refusal.HttpRefusal.TheVariants.{Head, TooLargeHead, Method, Target, Host, Length, Conflict, Coding, TooLong, Chunk, Cut, ReadFault, NoMemory}
 use Rattle.ojp_http.specs.Asking.{HttpAsk}
-use Rattle.ojp_http.specs.Responses.{response_head, no_memory_response}
+use Rattle.ojp_http.specs.Responses.{response_head}
 
 -- the status that answers a refusal; a failed read is not answered
 abbrev pub refusal_status : HttpRefusal → ℕ

@@ -1,5 +1,5 @@
 -- What some bytes are, read as a message.
-use Rattle.std.specs.Prelude.{◌≡◌, ℕ, List, ◌++◌}
+use Rattle.std.specs.Prelude.{ℕ, List, ◌++◌}
 use Rattle.ojp_http.specs.declared.refusal.Refusal.{Refusal}
 
 -- a whole message, by its body and what follows it; refused; or not all there, by the body so far

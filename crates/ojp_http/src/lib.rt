@@ -7,6 +7,7 @@ mod ask;
 pub mod fed;
 mod fields;
 mod head;
+pub mod laws;
 mod machine;
 mod outcome;
 pub mod refusal;

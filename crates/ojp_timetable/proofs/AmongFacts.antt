@@ -1,11 +1,11 @@
 -- Elements of lists that grow.
-use Rattle.std.proofs.Common.{◌≡◌, ℕ, zero, suc, ◌+◌, ◌<◌, ◌⊎◌, inl, inr, Bool, true, false, not, ◌||◌, cond, List, [], ◌∷◌, ◌++◌, length, take, drop, refl, sym, ◌∙◌, ap, subst, arith, true≢false, nat_lt}
-use Rattle.std.specs.Prelude.{Option, Some, None, insert, position, unwrap_or}
-use Rattle.std.specs.List.{list_any, position_or_len, prefix_len}
+use Rattle.std.proofs.Common.{◌≡◌, ℕ, zero, suc, ◌+◌, ◌<◌, ◌⊎◌, inl, inr, Bool, true, false, not, ◌||◌, cond, List, [], ◌∷◌, ◌++◌, length, refl, sym, ◌∙◌, ap, arith, true≢false, nat_lt}
+use Rattle.std.specs.Prelude.{Some, None, insert, position, unwrap_or}
+use Rattle.std.specs.List.{list_any, position_or_len}
 use Rattle.std.proofs.lemmas.Bool.Decides.{nat_tests}
 use Rattle.ojp_values.specs.Lists.{Among}
 
-or_false : (a b : Bool) → a || b ≡ false → (a ≡ false) × (b ≡ false)
+pub or_false : (a b : Bool) → a || b ≡ false → (a ≡ false) × (b ≡ false)
 or_false true b h = absurd (true≢false h)
 or_false false b h = (refl, h)
 

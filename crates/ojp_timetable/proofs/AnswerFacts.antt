@@ -1,5 +1,5 @@
 -- The answer of a region to a trip ask is within the limits of a document.
-use Rattle.std.proofs.Common.{◌≡◌, Option, Some, None, List, [], ◌∷◌, subst, sym}
+use Rattle.std.proofs.Common.{Option, Some, None, [], ◌∷◌, subst, sym}
 use Rattle.ojp_values.specs.Limits.{IsWellDelivery}
 use Rattle.ojp_values.specs.declared.asks.TripAsk.{TripAsk}
 use Rattle.ojp_values.specs.declared.replies.Fault.{Fault}

@@ -1,5 +1,5 @@
 -- The journeys that a row of calls makes, and how they grow.
-use Rattle.std.proofs.Common.{◌≡◌, ℕ, zero, suc, Bool, true, false, cond, ◌||◌, ◌+◌, ◌-◌, ◌≤◌, List, [], ◌∷◌, ◌++◌, length, take, drop, map, refl, sym, ◌∙◌, ap, arith, subst, true≢false, length-append, length-drop, length-take-le, slice_range}
+use Rattle.std.proofs.Common.{◌≡◌, ℕ, zero, suc, Bool, true, false, cond, ◌||◌, ◌+◌, ◌-◌, ◌≤◌, List, [], ◌∷◌, ◌++◌, length, take, drop, refl, sym, ◌∙◌, ap, arith, subst, true≢false, length-drop, length-take-le, slice_range}
 use Rattle.std.specs.List.{sum_by, list_any}
 use Rattle.std.specs.Prelude.{Option, Some, None, is_some, bytes_eq, unwrap_or, option_map, slice_get}
 use Rattle.std.specs.Map.{lookup}

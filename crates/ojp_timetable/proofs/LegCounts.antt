@@ -4,8 +4,8 @@ use Rattle.ojp_values.specs.Lists.{Among}
 use Rattle.ojp_values.specs.Texts.{Text, same}
 use Rattle.ojp_values.specs.declared.trips.Leg.{Leg}
 use Rattle.ojp_timetable.specs.Tables.{Timetable, Place, place_of, change_of}
-use Rattle.ojp_timetable.specs.Runs.{IsLeg, IsWell, day_long}
-use Rattle.ojp_timetable.specs.Journeys.{Follows, GoesOn, Leads, Regional}
+use Rattle.ojp_timetable.specs.Runs.{IsWell, day_long}
+use Rattle.ojp_timetable.specs.Journeys.{Follows, GoesOn, Regional}
 use Rattle.ojp_timetable.proofs.RideFacts.{leg_forward}
 
 chosen : (b : Bool) (x place : Place) (rest : Option Place) (xs : List Place) → (rest ≡ Some place → Among place xs) → cond b (Some x) rest ≡ Some place → Among place (x ∷ xs)

@@ -12,3 +12,8 @@ pub mod LineFacts
 pub mod PassFacts
 pub mod AmongFacts
 pub mod WellFacts
+pub mod ListFacts
+pub mod PointOrder
+pub mod PointsKept
+pub mod RefusalFacts
+pub mod NoonOnce

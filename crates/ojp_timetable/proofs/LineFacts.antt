@@ -1,5 +1,5 @@
 -- The first line of a text.
-use Rattle.std.proofs.Common.{◌≡◌, ℕ, zero, suc, ◌+◌, ◌<◌, ◌≤◌, ◌==◌, Bool, true, false, cond, List, [], ◌∷◌, ◌++◌, length, take, drop, get_or, refl, sym, ◌∙◌, ap, arith, take-append-drop, add-one}
+use Rattle.std.proofs.Common.{◌≡◌, ℕ, zero, suc, ◌+◌, ◌<◌, ◌==◌, Bool, true, false, cond, [], ◌∷◌, length, take, drop, get_or, ◌∙◌, ap, arith, add-one}
 use Rattle.std.specs.Prelude.{Some, None, position}
 use Rattle.std.specs.List.{onto_first}
 use Rattle.std.proofs.lemmas.List.Quantifiers.{position-Some}

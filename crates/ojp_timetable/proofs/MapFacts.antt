@@ -1,5 +1,5 @@
 -- Look-ups in a map, by the list of what it keeps.
-use Rattle.std.proofs.Common.{◌≡◌, ℕ, ◌+◌, Bool, true, false, not, ◌||◌, cond, nat_lt, List, [], ◌∷◌, length, map, refl, sym, ◌∙◌, ap, suc, true≢false}
+use Rattle.std.proofs.Common.{◌≡◌, ℕ, ◌+◌, Bool, true, false, not, ◌||◌, cond, nat_lt, List, [], ◌∷◌, length, map, refl, ◌∙◌, ap, suc, true≢false}
 use Rattle.std.specs.Prelude.{Option, Some, None, is_some, option_map, find, position}
 use Rattle.std.specs.List.{list_any, prefix_len}
 use Rattle.std.specs.Map.{lookup, keys_of}

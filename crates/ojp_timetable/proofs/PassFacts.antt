@@ -1,6 +1,6 @@
 -- Reading one line more.
-use Rattle.std.proofs.Common.{◌≡◌, ℕ, zero, suc, ◌+◌, ◌-◌, ◌<◌, ◌≤◌, ◌⊎◌, inl, inr, Bool, true, false, cond, nat_lt, ◌==◌, List, [], ◌∷◌, ◌++◌, length, take, drop, get_or, refl, sym, ◌∙◌, ap, subst, arith, fold, add-one, length-drop}
-use Rattle.std.specs.Prelude.{Option, Some, None, Ok, Err}
+use Rattle.std.proofs.Common.{◌≡◌, ℕ, zero, suc, ◌+◌, ◌-◌, ◌<◌, ◌≤◌, inl, inr, Bool, true, false, cond, nat_lt, ◌==◌, List, [], ◌∷◌, ◌++◌, length, take, drop, get_or, refl, sym, ◌∙◌, ap, subst, arith, fold, add-one, length-drop}
+use Rattle.std.specs.Prelude.{Some, None, Ok, Err}
 use Rattle.std.proofs.lemmas.List.{take_all}
 use Rattle.std.proofs.Math.Nat.{eq-or-lt_of_le}
 use Rattle.std.proofs.lemmas.Bool.Decides.{nat_tests}
@@ -14,7 +14,6 @@ use Rattle.ojp_timetable.specs.declared.refusals.LineRefused.{LineRefused}
 use Rattle.ojp_timetable.specs.declared.refusals.LineRefused.TheVariants.{Reason, NoMemory}
 use Rattle.ojp_timetable.specs.TableText.{ArePassed, IsRefused, lines_of, above_of, fault_at, fault_at_end, reason_of, with_line, with_said}
 use Rattle.ojp_timetable.specs.Said.{Said}
-use Rattle.ojp_timetable.specs.declared.lines.TableReason.{TableReason}
 
 -- the line that is next, and what is left
 pub record IsNext (all : List Text) (n : ℕ) (line : Text) (more : List Text) : Type 0 where

@@ -1,17 +1,17 @@
 -- Each line that passes keeps the contents well.
-use Rattle.std.proofs.Common.{◌≡◌, ℕ, zero, suc, ◌+◌, ◌<◌, ◌≤◌, ◌⊎◌, inl, inr, Bool, true, false, not, ◌&&◌, ◌||◌, cond, List, [], ◌∷◌, ◌++◌, length, refl, sym, ◌∙◌, ap, subst, arith, true≢false, nat_lt, length-append}
-use Rattle.std.specs.Prelude.{Option, Some, None, insert, position, unwrap_or}
-use Rattle.std.specs.List.{list_any}
+use Rattle.std.proofs.Common.{◌≡◌, ℕ, ◌+◌, ◌<◌, ◌≤◌, ◌⊎◌, inl, inr, Bool, true, false, not, ◌&&◌, cond, List, [], ◌∷◌, ◌++◌, length, refl, sym, ◌∙◌, ap, subst, arith, true≢false, length-append}
+use Rattle.std.specs.Prelude.{Option, Some, None, unwrap_or}
 use Rattle.std.proofs.lemmas.Bool.Decides.{nat_tests}
 use Rattle.ojp_values.specs.Lists.{Among}
 use Rattle.ojp_zones.specs.Noons.{AreNear, IsZone}
 use Rattle.ojp_values.specs.Texts.{Text, same, home, is_exchange, code_part}
 use Rattle.ojp_values.specs.declared.trips.Point.{Point}
 use Rattle.ojp_values.specs.declared.trips.Neighbour.{Neighbour}
-use Rattle.ojp_timetable.specs.Tables.{Call, Journey, Place, Service, Timetable}
-use Rattle.ojp_timetable.specs.Runs.{IsOfRegion, IsOffset, IsWell, IsWellCall, NoneFalls, NotBefore, latest}
+use Rattle.ojp_timetable.specs.Tables.{Call, Journey, Place, Service}
+use Rattle.ojp_timetable.specs.Points.{AreWellPoints}
+use Rattle.ojp_timetable.specs.Runs.{IsOffset, IsWell, IsWellCall, NoneFalls, NotBefore, latest}
 use Rattle.ojp_timetable.specs.Contents.{Contents, has_place, has_service, point_with, points_with, service_number, timetable_of, with_call, with_point}
-use Rattle.ojp_timetable.specs.Lines.{Above, after_line, grown, IsWellLine, left_by, left_open, new_point, no_lines, points_with_place}
+use Rattle.ojp_timetable.specs.Lines.{Above, after_line, grown, IsWellLine, left_by, left_open, new_point, no_lines}
 use Rattle.ojp_timetable.specs.Checks.{departed, falls_from, is_before, is_doubled, is_falling, is_foreign, is_stop_elsewhere, lacks_service, lacks_stop, later_of}
 use Rattle.ojp_timetable.specs.WellContents.{EndsOpen, HasCome, IsCall, IsOpen, IsWellAbove, IsWellContents, IsWellSoFar, Passes, last_time}
 use Rattle.ojp_timetable.specs.declared.lines.Line.{Line}
@@ -19,7 +19,7 @@ use Rattle.ojp_timetable.specs.declared.lines.Line.TheVariants as lines
 use Rattle.ojp_timetable.specs.declared.lines.Dates.{Dates}
 use Rattle.ojp_timetable.specs.declared.lines.Open.{Open}
 use Rattle.ojp_timetable.specs.declared.lines.Open.TheVariants.{Nothing, Begun, Since}
-use Rattle.ojp_timetable.proofs.AmongFacts.{among_insert, among_inserted, among_last, among_left, among_push, any_false, any_true, place_within}
+use Rattle.ojp_timetable.proofs.AmongFacts.{among_insert, among_inserted, among_left, among_push, any_false, any_true, or_false, place_within}
 use Rattle.ojp_timetable.proofs.TextFacts.{is_same, same_is}
 
 -- a point of the same reference still stands
@@ -198,10 +198,6 @@ not_before : (t : ℕ) (time : Option ℕ) → is_before t time ≡ false → No
 not_before t None h = tt
 not_before t (Some u) h = grind (arith, nat_tests)
 
-or_false : (a b : Bool) → a || b ≡ false → (a ≡ false) × (b ≡ false)
-or_false true b h = absurd (true≢false h)
-or_false false b h = (refl, h)
-
 later_is : (t : ℕ) (time : Option ℕ) → later_of t time ≡ latest t time
 later_is t None = refl
 later_is t (Some u) = refl
@@ -346,8 +342,8 @@ line_keeps_well above text line w l o p = record {
 noon_in : (noons : List ℕ) (day : ℕ) → length noons ≡ 84001 → day ≤ 84002 → day < 2 + length noons
 noon_in noons day e h = omega (arith, e)
 
-pub table_is_well : (contents : Contents) (noons : List ℕ) → IsWellContents contents → length noons ≡ 84001 → AreNear noons → IsWell (timetable_of contents noons)
-table_is_well contents noons w days near = record {
+pub table_is_well : (contents : Contents) (noons : List ℕ) → IsWellContents contents → AreWellPoints contents.region contents.points → length noons ≡ 84001 → AreNear noons → IsWell (timetable_of contents noons)
+table_is_well contents noons w points days near = record {
   services = w.services;
   times = w.times;
   calls = λ journey a call b. let c = w.calls journey a call b in record {
@@ -360,6 +356,7 @@ table_is_well contents noons w days near = record {
   };
   changes = w.changes;
   one_each = w.one_each;
+  points = points;
   days = days;
   noons_low = λ day from to. near.low day from (noon_in noons day days to);
   noons_high = λ day from to. near.high day from (noon_in noons day days to);

@@ -1,5 +1,5 @@
 -- What a region answers, by its own timetable.
-use Rattle.std.specs.Prelude.{◌≡◌, ◌≢◌, ℕ, ◌+◌, ◌≤◌, ◌<◌, ◌⊎◌, ◌↔◌, not, ◌&&◌, ◌||◌, ◌==◌, nat_lt, Bool, List, [], ◌∷◌, Option, Some, None, length, take, find, map, filter, option_map, if◌then◌else◌, slice_get, MatchBool}
+use Rattle.std.specs.Prelude.{◌≡◌, ℕ, ◌+◌, ◌≤◌, ◌↔◌, not, ◌&&◌, ◌||◌, ◌==◌, nat_lt, Bool, List, [], ◌∷◌, Option, Some, None, length, take, find, option_map, if◌then◌else◌, slice_get, MatchBool}
 use Rattle.std.specs.List.{list_any}
 use Rattle.ojp_values.specs.Lists.{Among, Pairwise, IsRising}
 use Rattle.ojp_values.specs.Texts.{Text, same, text_lt}

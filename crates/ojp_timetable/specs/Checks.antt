@@ -1,5 +1,5 @@
 -- The checks of a line that speak of the lines above it, in their order.
-use Rattle.std.specs.Prelude.{ℕ, ◌+◌, Bool, true, false, ◌&&◌, ◌||◌, not, cond, nat_le, nat_lt, List, [], ◌∷◌, length, filter, Option, Some, None, Ok, Err}
+use Rattle.std.specs.Prelude.{ℕ, ◌+◌, Bool, false, ◌&&◌, ◌||◌, not, cond, nat_le, nat_lt, List, [], ◌∷◌, length, Option, Some, None, Ok, Err}
 use Rattle.std.specs.List.{list_any}
 use Rattle.ojp_values.specs.Texts.{Text, same, is_exchange, code_part}
 use Rattle.ojp_values.specs.declared.trips.Neighbour.{Neighbour}

@@ -1,5 +1,5 @@
 -- What the lines of a file declare.
-use Rattle.std.specs.Prelude.{◌≡◌, ◌<◌, ℕ, ◌+◌, Bool, pos, List, [], ◌∷◌, Option, None, find, position, map, length, if◌then◌else◌, insert, ◌++◌, unwrap_or, option_map}
+use Rattle.std.specs.Prelude.{ℕ, Bool, pos, List, [], ◌∷◌, Option, None, find, position, length, if◌then◌else◌, insert, ◌++◌, unwrap_or, option_map}
 use Rattle.std.specs.List.{list_any, sum_by}
 use Rattle.ojp_zones.specs.declared.zone.Zone.{Zone}
 use Rattle.ojp_values.specs.Texts.{Text, same, text_lt}

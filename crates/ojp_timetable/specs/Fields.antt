@@ -1,5 +1,5 @@
 -- The fields of a line.
-use Rattle.std.specs.Prelude.{ℕ, ◌-◌, ◌==◌, cond, List, [], ◌∷◌, length, take, slice_index, Option, Some, None}
+use Rattle.std.specs.Prelude.{◌-◌, ◌==◌, cond, List, [], ◌∷◌, length, take, slice_index, Option, Some, None}
 use Rattle.std.specs.List.{join_with_byte}
 use Rattle.ojp_values.specs.Texts.{Text}
 use Rattle.ojp_zones.specs.Parts.{parts}

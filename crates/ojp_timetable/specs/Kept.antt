@@ -1,5 +1,5 @@
 -- What is kept of the contents: entries by their names, and the calls of all journeys in one row.
-use Rattle.std.specs.Prelude.{ℕ, ◌≤◌, ◌≡◌, List, [], ◌∷◌, Option, Some, None, map, drop, length, slice_range, slice_get, option_map, unwrap_or}
+use Rattle.std.specs.Prelude.{ℕ, ◌≤◌, ◌≡◌, List, [], ◌∷◌, Option, Some, None, drop, slice_range, slice_get, option_map, unwrap_or}
 use Rattle.ojp_values.specs.Texts.{Text}
 use Rattle.ojp_timetable.specs.Tables.{Place, Service, Journey, Call}
 use Rattle.ojp_timetable.specs.declared.kept.PlaceFacts.{PlaceFacts}

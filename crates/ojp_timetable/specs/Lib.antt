@@ -9,9 +9,11 @@ pub mod TableText
 pub mod Refusals
 pub mod Views
 pub mod WellContents
+pub mod Points
 pub mod Runs
 pub mod Journeys
 pub mod Rows
 pub mod Answers
 pub mod Examples
 pub mod Bounds
+pub mod TextLaws

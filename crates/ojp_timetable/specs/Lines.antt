@@ -2,7 +2,6 @@
 use Rattle.std.specs.Prelude.{◌≡◌, ◌≤◌, ◌<◌, ℕ, ◌+◌, List, [], ◌∷◌, ◌++◌, length, Option, Some, None, unwrap_or, if◌then◌else◌}
 use Rattle.ojp_values.specs.Texts.{Text, is_exchange}
 use Rattle.ojp_values.specs.declared.trips.Point.{Point}
-use Rattle.ojp_timetable.specs.Tables.{Place, Service, Journey}
 use Rattle.ojp_timetable.specs.Contents.{Contents, no_contents, service_number, with_point, points_with, with_call}
 use Rattle.ojp_timetable.specs.declared.lines.Line.{Line}
 use Rattle.ojp_timetable.specs.declared.lines.Line.TheVariants as lines

@@ -5,6 +5,7 @@ use Rattle.ojp_values.specs.Texts.{Text, home}
 use Rattle.ojp_values.specs.declared.trips.Leg.{Leg}
 use Rattle.ojp_values.specs.declared.trips.Point.{Point}
 use Rattle.ojp_timetable.specs.Tables.{Timetable, Journey, Service, Call, Place, name_of}
+use Rattle.ojp_timetable.specs.Points.{AreWellPoints}
 
 -- the last moment that a document can spell: 2199-12-31T23:59:59Z
 abbrev pub last_moment : ℕ
@@ -108,6 +109,7 @@ pub record IsWell (table : Timetable) : Type 0 where
   pub calls : (journey : Journey) → Among journey table.journeys → (call : Call) → Among call journey.calls → IsWellCall table call
   pub changes : (place : Place) → Among place table.places → (1 ≤ place.change) × (place.change ≤ 7200)
   pub one_each : (x y : Place) → Among x table.places → Among y table.places → x.stop ≡ y.stop → x ≡ y
+  pub points : AreWellPoints table.region table.points
   pub days : length table.noons ≡ 84001
   pub noons_low : (day : ℕ) → 2 ≤ day → day ≤ 84002 → 86400 * day + 43200 ≤ slice_index table.noons (day - 2) + 57540
   pub noons_high : (day : ℕ) → 2 ≤ day → day ≤ 84002 → slice_index table.noons (day - 2) ≤ 86400 * day + 43200 + 57540

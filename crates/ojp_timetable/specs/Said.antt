@@ -1,15 +1,12 @@
 -- What a line says by its form and its values, or which of them is wrong.
-use Rattle.std.specs.Prelude.{ℕ, Bool, true, false, ◌&&◌, ◌||◌, not, ◌==◌, cond, nat_le, List, [], ◌∷◌, length, map, codes, slice_index, Option, Some, None, Result, Ok, Err}
+use Rattle.std.specs.Prelude.{ℕ, Bool, true, false, ◌&&◌, ◌||◌, not, ◌==◌, cond, nat_le, List, [], ◌∷◌, length, map, codes, Option, Some, None, Result, Ok, Err}
 use Rattle.std.specs.List.{list_all}
 use Rattle.ojp_values.specs.Texts.{Text, same, is_code, is_label, is_stop_ref, is_exchange, is_name}
-use Rattle.ojp_values.specs.declared.trips.Neighbour.{Neighbour}
 use Rattle.ojp_zones.specs.Numbers.{is_number, number}
 use Rattle.ojp_zones.specs.Days.{day_of}
 use Rattle.ojp_zones.specs.Zones.{zone_of}
 use Rattle.ojp_zones.specs.declared.zone.Zone.{Zone as ZoneValue}
-use Rattle.ojp_timetable.specs.Tables.{Call}
 use Rattle.ojp_timetable.specs.Fields.{fields_of, joined}
-use Rattle.ojp_timetable.specs.declared.lines.Dates.{Dates}
 use Rattle.ojp_timetable.specs.declared.lines.Line.{Line}
 use Rattle.ojp_timetable.specs.declared.lines.Line.TheVariants as lines
 use Rattle.ojp_timetable.specs.declared.lines.Open.{Open}

@@ -1,5 +1,5 @@
 -- A timetable as plain data: what a region serves.
-use Rattle.std.specs.Prelude.{ℕ, Bool, List, Option, option_map, unwrap_or, [], find, position}
+use Rattle.std.specs.Prelude.{ℕ, Bool, List, Option, option_map, find}
 use Rattle.std.specs.List.{list_any}
 use Rattle.ojp_values.specs.Texts.{Text, same}
 use Rattle.ojp_values.specs.declared.trips.Point.{Point}

@@ -1,5 +1,5 @@
 -- What the questions to a timetable answer.
-use Rattle.std.specs.Prelude.{◌≡◌, ◌≤◌, ℕ, ◌+◌, ◌%◌, Bool, true, ◌&&◌, ◌==◌, nat_le, List, [], length, codes, Option, Some, None, option_map, unwrap_or, slice_get, slice_index}
+use Rattle.std.specs.Prelude.{ℕ, List, [], length, codes, option_map, unwrap_or, slice_get}
 use Rattle.ojp_values.specs.Texts.{Text}
 use Rattle.ojp_timetable.specs.Tables.{Call, Journey, Place, Service}
 use Rattle.ojp_timetable.specs.declared.lines.Dates.{Dates}

@@ -1,14 +1,15 @@
 -- What the contents of lines that pass keep.
-use Rattle.std.specs.Prelude.{◌≡◌, ◌≤◌, ◌<◌, ℕ, true, false, List, [], ◌∷◌, ◌++◌, length, Option, Some, None}
+use Rattle.std.specs.Prelude.{◌≡◌, ◌≤◌, ◌<◌, ℕ, true, false, List, [], ◌∷◌, length}
 use Rattle.ojp_values.specs.Lists.{Among}
 use Rattle.ojp_values.specs.Texts.{is_exchange}
 use Rattle.ojp_values.specs.declared.trips.Point.{Point}
 use Rattle.ojp_timetable.specs.Tables.{Call, Journey, Place}
+use Rattle.ojp_timetable.specs.Points.{AreWellPoints}
 use Rattle.ojp_timetable.specs.Runs.{IsWellCall, NoneFalls, latest}
 use Rattle.ojp_timetable.specs.Contents.{Contents, timetable_of}
 use Rattle.ojp_zones.specs.Noons.{AreNear, IsZone}
 use Rattle.ojp_timetable.specs.Lines.{Above}
-use Rattle.ojp_timetable.specs.Checks.{departed, is_doubled, is_falling, is_foreign, lacks_service, lacks_stop}
+use Rattle.ojp_timetable.specs.Checks.{is_doubled, is_falling, is_foreign, lacks_service, lacks_stop}
 use Rattle.ojp_timetable.specs.declared.lines.Line.{Line}
 use Rattle.ojp_timetable.specs.declared.lines.Line.TheVariants.{Call as CallLine}
 use Rattle.ojp_timetable.specs.declared.lines.Open.{Open}
@@ -74,9 +75,10 @@ pub record IsWellAbove (above : Above) : Type 0 where
   pub so_far : IsWellSoFar above
 
 -- what is kept of a timetable beside what its lines say: the region is named, there is a noon for each operating
--- day, none is far from that of UTC, and the contents are well
+-- day, none is far from that of UTC, and the contents are well and so are the exchange points
 pub record IsWhole (contents : Contents) (noons : List ℕ) : Type 0 where
   pub named : 0 < length contents.region
   pub days : length noons ≡ 84001
   pub near : AreNear noons
   pub well : IsWellContents contents
+  pub points : AreWellPoints contents.region contents.points

@@ -4,6 +4,7 @@ ghost use Rattle.ojp_timetable.specs.Bounds.{AnswersAreBounded};
 ghost use Rattle.ojp_timetable.specs.Examples.{RideIsAJourney, FaultsAreNamed};
 ghost use Rattle.ojp_timetable.specs.Journeys.{LegsAreBounded};
 ghost use Rattle.ojp_timetable.specs.Rows.{RowsAgree};
+ghost use Rattle.ojp_timetable.specs.TextLaws.{PointsAreWell, RefusalIsOne, TableIsOne, TextIsNotRefused};
 
 /// A ride of a small timetable is a journey of its region, and of the regions together.
 pub fn ride_is_a_journey()
@@ -28,4 +29,25 @@ pub fn legs_are_bounded()
 /// The answer of a region to a trip request is within the limits of a document.
 pub fn answers_are_bounded()
     ensures { AnswersAreBounded }
+{}
+
+/// A file is refused at one line and for one reason.
+pub fn refusal_is_one()
+    ensures { RefusalIsOne }
+{}
+
+/// The text of a timetable is not refused.
+pub fn text_is_not_refused()
+    ensures { TextIsNotRefused }
+{}
+
+/// A text is that of one timetable.
+pub fn table_is_one()
+    ensures { TableIsOne }
+{}
+
+/// The exchange points that a text declares are those of its region and rise by reference, and the
+/// neighbours of each rise by code, none being the region itself.
+pub fn points_are_well()
+    ensures { PointsAreWell }
 {}

@@ -56,7 +56,8 @@ impl Timetable {
         Ok(Timetable { draft, noons })
     }
 
-    /// The timetable is well: its times do not fall, and its stops, services and noons are in range.
+    /// The timetable is well: its times do not fall, its stops, services and noons are in range, and
+    /// its exchange points rise by reference, the neighbours of each by code.
     pub fn is_well(&self)
         ensures { IsWell self.now }
     {

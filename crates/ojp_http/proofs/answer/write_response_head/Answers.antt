@@ -1,9 +1,8 @@
-use Rattle.std.proofs.Common.{◌≡◌, ℕ, List, [], ap, ◌∙◌, subst, OnOk, OnErr, unwrap_or}
-use Rattle.std.specs.Prelude.{decimal}
+use Rattle.std.proofs.Common.{ℕ, List, [], ap, ◌∙◌, subst, OnOk, OnErr, unwrap_or}
 use Rattle.std.specs.Io.KnownBytes.{Appends}
 use Rattle.ojp_outside.specs.Known.{AppendsPrefix}
 use Rattle.http.specs.StatusCode.{code_digits, reason_phrase}
-use Rattle.ojp_http.specs.Responses.{head_text, response_head, allow_line, type_line}
+use Rattle.ojp_http.specs.Responses.{head_text}
 use Rattle.ojp_http.proofs.answer.write_response_head.Goals as goal
 
 pub returns-clause-ok : goal.returns-clause-ok

@@ -1,4 +1,4 @@
-use Rattle.std.proofs.Common.{◌≡◌, ◌<◌, ℕ, List, [], refl, sym, ◌∙◌, subst, take, length, arith, Err, Ok}
+use Rattle.std.proofs.Common.{◌<◌, ℕ, List, [], refl, sym, ◌∙◌, subst, take, length, arith, Err, Ok}
 use Rattle.std.proofs.lemmas.List.{length-take}
 use Rattle.std.specs.Io.KnownBytes.{Consumes}
 use Rattle.ojp_http.specs.declared.refusal.HttpRefusal.{HttpRefusal}

@@ -1,12 +1,9 @@
-use Rattle.std.proofs.Common.{◌≡◌, ℕ, List, refl, sym, ap, ◌∙◌, arith, length, take, map, Err}
-use Rattle.std.proofs.lemmas.List.{length-map, length-take-le}
+use Rattle.std.proofs.Common.{sym, ap, ◌∙◌, arith, Err}
 use Rattle.httparse.specs.Grammar.{ReadsRequest, RequestHead}
-use Rattle.httparse.specs.Spans.{header_bytes, name_and_value}
-use Rattle.ojp_http.specs.Bodies.{ReadsTrailer}
-use Rattle.ojp_http.specs.Fields.{ask_frame, ask_by, reply_frame, reply_by}
+use Rattle.ojp_http.specs.Fields.{ask_frame, ask_by}
 use Rattle.ojp_http.proofs.Full.{not_true}
-use Rattle.ojp_http.proofs.Headed.{unparsed, unended, partial_more, partial_full, too_many, decides_found, decides_malformed}
-use Rattle.ojp_http.proofs.Grammars.{requests, responses, trailers, few_fields}
+use Rattle.ojp_http.proofs.Headed.{unparsed, partial_more, partial_full, too_many, decides_found, decides_malformed}
+use Rattle.ojp_http.proofs.Grammars.{requests, few_fields}
 use Rattle.ojp_http.proofs.head.request_outcome.Goals as goal
 
 pub returns-then-not-scan : goal.returns-then-not-scan

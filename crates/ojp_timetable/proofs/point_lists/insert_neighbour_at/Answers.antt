@@ -1,4 +1,4 @@
-use Rattle.std.proofs.Common.{◌≡◌, sym, ◌∙◌, ap, refl, set, get_or, List}
+use Rattle.std.proofs.Common.{◌≡◌, sym, ◌∙◌, ap, set, get_or, List}
 use Rattle.ojp_values.specs.declared.trips.Neighbour.{Neighbour}
 use Rattle.ojp_values.specs.declared.trips.Point.{Point}
 use Rattle.ojp_timetable.specs.Contents.{point_with, with_neighbour}

@@ -1,4 +1,3 @@
-use Rattle.std.proofs.Common.{refl}
 use Rattle.ojp_http.proofs.MachineFacts.{begins_sized}
 use Rattle.ojp_http.proofs.machine.Framing.enter.Goals as goal
 

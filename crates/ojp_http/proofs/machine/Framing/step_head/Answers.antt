@@ -1,8 +1,8 @@
-use Rattle.std.proofs.Common.{◌≡◌, ℕ, List, refl, sym, ◌∙◌, Some, None}
+use Rattle.std.proofs.Common.{◌∙◌, Some}
 use Rattle.httparse.specs.Grammar.{ReadsRequest, RequestHead}
 use Rattle.ojp_http.specs.declared.refusal.Refusal.TheVariants as refusals
 use Rattle.ojp_http.specs.declared.machine.Place.TheVariants.{Head}
-use Rattle.ojp_http.specs.Bodies.{Frames, Asks}
+use Rattle.ojp_http.specs.Bodies.{Frames}
 use Rattle.ojp_http.specs.Fields.{ask_frame}
 use Rattle.ojp_http.proofs.MachineFacts.{ask_bounded}
 use Rattle.ojp_http.proofs.Stepping.{open_at, few_lines, scanned, grown, ready_more, head_more, head_found, head_refused, begins_malformed, begins_full}

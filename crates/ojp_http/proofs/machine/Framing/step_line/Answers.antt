@@ -1,6 +1,6 @@
-use Rattle.std.proofs.Common.{refl, sym, ◌∙◌, arith}
+use Rattle.std.proofs.Common.{◌∙◌, arith}
 use Rattle.ojp_http.specs.declared.machine.Place.TheVariants.{Line}
-use Rattle.ojp_http.proofs.Stepping.{open_at, line_sized, line_wrong, line_long, line_open}
+use Rattle.ojp_http.proofs.Stepping.{open_at, line_sized, line_wrong, line_long}
 use Rattle.ojp_http.proofs.machine.Framing.step_line.Goals as goal
 
 pub returns-in-Some : goal.returns-in-Some

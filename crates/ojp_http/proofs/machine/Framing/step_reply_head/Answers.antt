@@ -1,8 +1,8 @@
-use Rattle.std.proofs.Common.{◌≡◌, ℕ, List, refl, sym, ◌∙◌, Some, None}
+use Rattle.std.proofs.Common.{◌∙◌, None}
 use Rattle.httparse.specs.Grammar.{ReadsResponse, ResponseHead}
 use Rattle.ojp_http.specs.declared.refusal.Refusal.TheVariants as refusals
 use Rattle.ojp_http.specs.declared.machine.Place.TheVariants.{ReplyHead}
-use Rattle.ojp_http.specs.Bodies.{Frames, Asks}
+use Rattle.ojp_http.specs.Bodies.{Frames}
 use Rattle.ojp_http.specs.Fields.{reply_frame}
 use Rattle.ojp_http.proofs.Stepping.{open_at, few_lines, scanned, grown, ready_more, reply_more, reply_found, reply_refused, begins_malformed, begins_full}
 use Rattle.ojp_http.proofs.machine.Framing.step_reply_head.Goals as goal

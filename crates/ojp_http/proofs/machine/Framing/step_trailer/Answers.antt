@@ -1,4 +1,4 @@
-use Rattle.std.proofs.Common.{◌≡◌, ℕ, List, refl, sym, ◌∙◌, Some, None}
+use Rattle.std.proofs.Common.{refl, ◌∙◌}
 use Rattle.ojp_http.specs.declared.refusal.Refusal.TheVariants as refusals
 use Rattle.ojp_http.specs.declared.machine.Place.TheVariants.{Trailing}
 use Rattle.ojp_http.specs.Bodies.{ReadsTrailer, Ends}

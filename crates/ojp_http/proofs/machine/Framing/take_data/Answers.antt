@@ -1,4 +1,4 @@
-use Rattle.std.proofs.Common.{refl, arith, take, length}
+use Rattle.std.proofs.Common.{refl, arith, take}
 use Rattle.std.proofs.lemmas.List.{length-take}
 use Rattle.ojp_http.proofs.Stepping.{advances, chunk_taken}
 use Rattle.ojp_http.proofs.machine.Framing.take_data.Goals as goal

@@ -1,6 +1,6 @@
 use Rattle.std.proofs.Common.{sym, ap, ◌∙◌}
 use Rattle.ojp_http.specs.declared.fed.Stage.{Stage}
-use Rattle.ojp_http.proofs.ReplyFacts.{view_of, feeds_whole, feeds_more, feeds_over}
+use Rattle.ojp_http.proofs.ReplyFacts.{view_of, feeds_behind, feeds_whole, feeds_more, feeds_over}
 use Rattle.ojp_http.proofs.reply.Reply.feed.Goals as goal
 
 pub returns-then-is_whole : goal.returns-then-is_whole
@@ -25,3 +25,9 @@ returns-in-Err c =
     c.in-Err.stop c.refusal_of-refused.result c.refusal_of-refused.ensures
     (sym c.self.view_is ∙ ap (λ (s : Stage). view_of s c.self.inside.framing) c.in-Reading.is) (sym c.replace.ensures.value ∙ sym c.into_items-items.ensures) c.from_items.ensures
     c.in-Err.ensures fed
+
+pub returns-in-Whole-2 : goal.returns-in-Whole-2
+returns-in-Whole-2 c =
+    λ bytes got fed.
+    feeds_behind c.self.inside.framing c.args.self.now bytes got c.args.piece.now c.args.body.now
+    (sym c.self.view_is ∙ ap (λ (s : Stage). view_of s c.self.inside.framing) c.in-Whole-2.is) (sym c.is_empty.ensures ∙ c.if-is_empty.false) fed

@@ -1,5 +1,4 @@
-use Rattle.std.proofs.Common.{◌≡◌, sym, ◌∙◌, ap, refl, ◌++◌, ◌∷◌, [], subst, length, List, ℕ, ◌+◌, true≢false, length-append}
-use Rattle.ojp_timetable.specs.Tables.{Call, Journey}
+use Rattle.std.proofs.Common.{◌≡◌, sym, ◌∙◌, ap, ◌∷◌, [], subst, length, ℕ, ◌+◌, true≢false, length-append}
 use Rattle.ojp_timetable.specs.Contents.{Contents, with_call}
 use Rattle.ojp_timetable.specs.Kept.{AreInRow, journeys_of}
 use Rattle.ojp_timetable.proofs.CallRowFacts.{with_call-row, in_row-push}

@@ -1,9 +1,8 @@
-use Rattle.std.proofs.Common.{◌≡◌, sym, ◌∙◌, ap, refl, map, ◌++◌, ◌∷◌, [], false, subst, length, List, ℕ}
-use Rattle.std.specs.List.{list_any}
+use Rattle.std.proofs.Common.{◌≡◌, sym, ◌∙◌, ap, refl, ◌++◌, ◌∷◌, [], subst, length, List, ℕ}
 use Rattle.std.specs.Prelude.{Option, unwrap_or}
 use Rattle.indexmap.proofs.CallerLemmas.{insert_entry-new}
 use Rattle.ojp_values.specs.Texts.{Text, same}
-use Rattle.ojp_timetable.specs.Tables.{Call, Journey}
+use Rattle.ojp_timetable.specs.Tables.{Journey}
 use Rattle.ojp_timetable.specs.Contents.{Contents, has_journey, service_number}
 use Rattle.ojp_timetable.specs.Kept.{AreInRow, journeys_of}
 use Rattle.ojp_timetable.specs.declared.kept.Head.{Head}

@@ -1,4 +1,4 @@
-use Rattle.std.proofs.Common.{◌≡◌, ◌∙◌, ap, sym, ℕ, length}
+use Rattle.std.proofs.Common.{◌∙◌, ap, sym, ℕ, length}
 use Rattle.std.specs.Prelude.{Option, Some, option_map, slice_get}
 use Rattle.ojp_values.specs.Texts.{Text}
 use Rattle.ojp_timetable.specs.Contents.{Contents}

@@ -1,0 +1,26 @@
+-- Laws of the text of a timetable.
+use Rattle.std.specs.Prelude.{◌≡◌, ℕ}
+use Rattle.ojp_values.specs.Texts.{Text}
+use Rattle.ojp_timetable.specs.Tables.{Timetable}
+use Rattle.ojp_timetable.specs.Points.{AreWellPoints}
+use Rattle.ojp_timetable.specs.TableText.{IsRefused, IsText}
+use Rattle.ojp_timetable.specs.declared.lines.TableReason.{TableReason}
+
+-- a file is refused at one line and for one reason
+abbrev pub RefusalIsOne : Type 0
+RefusalIsOne =
+    (bytes : Text) (line other : ℕ) (reason why : TableReason) → IsRefused bytes line reason → IsRefused bytes other why
+    → (line ≡ other) × (reason ≡ why)
+
+-- the text of a timetable is not refused
+abbrev pub TextIsNotRefused : Type 0
+TextIsNotRefused =
+    (bytes : Text) (table : Timetable) (line : ℕ) (reason : TableReason) → IsText bytes table → IsRefused bytes line reason → ⊥
+
+-- a text is that of one timetable
+abbrev pub TableIsOne : Type 0
+TableIsOne = (bytes : Text) (table other : Timetable) → IsText bytes table → IsText bytes other → table ≡ other
+
+-- the exchange points that a text declares are those of its region, and rise by reference, each with rising neighbours
+abbrev pub PointsAreWell : Type 0
+PointsAreWell = (bytes : Text) (table : Timetable) → IsText bytes table → AreWellPoints table.region table.points
