@@ -12,7 +12,7 @@ use Rattle.ojp_grammar.specs.Places.{IsRefused}
 use Rattle.ojp_grammar.specs.declared.refusals.Want.{Want}
 use Rattle.ojp_grammar.specs.declared.refusals.Reason.{Reason}
 use Rattle.ojp_grammar.specs.declared.refusals.Refused.{Refused}
-use Rattle.ojp_decode.specs.Progress.{Progress, reading, whole, over, spent}
+use Rattle.ojp_decode.specs.Progress.{Progress, bytes_of, reading, whole, over, spent}
 use Rattle.ojp_decode.specs.Feeding.{FeedsOn, FeedsBehind, StaysRefused, IsCut, IsRead, trailing}
 use Rattle.ojp_decode.specs.declared.fed.Fed.{Fed}
 use Rattle.ojp_decode.specs.declared.fed.Fed.TheVariants as feds
@@ -199,8 +199,19 @@ module _ (want : Want) (old mid now : Option Text) (before count later : ℕ) (s
 pub kept_lost : (want : Want) (old mid now : Option Text) (before count : ℕ) (s : Progress) → HasFed want old mid before count s → Keeps mid now → LosesPrefix old now
 kept_lost want old mid now before count s h k = (h.fed, Consumes-kept old mid now h.fed h.taken k)
 
-pub fed_lost : (want : Want) (old now : Option Text) (before count : ℕ) (s : Progress) → HasFed want old now before count s → LosesPrefix old now
-fed_lost want old now before count s h = (h.fed, h.taken)
-
 pub rose_later : (before mid now : ℕ) → before ≤ mid → Rose mid now → Rose before now
 rose_later before mid now le rose = omega arith
+
+took_counted : (want : Want) (fed : Text) (s : Progress) → Took want fed s → bytes_of s ≡ fed
+took_counted want fed (reading w b) t = t.1
+took_counted want fed (whole w b) t = t.1
+took_counted want fed (over r) t = absurd t
+took_counted want fed spent t = absurd t
+
+-- what was fed grows with a piece, and there is a last number to count to
+pub fed_grows : (want : Want) (fed piece : Text) (old new : Progress) (last : ℕ) → length (bytes_of old) < last → 0 < length piece
+    → Took want fed old → Took want (fed ++ piece) new → last - length (bytes_of new) < last - length (bytes_of old)
+fed_grows want fed piece old new last small some t u =
+    let e : length (bytes_of old) ≡ length fed = ap length (took_counted want fed old t) in
+    let f : length (bytes_of new) ≡ length fed + length piece = ap length (took_counted want (fed ++ piece) new u) ∙ length-append fed piece in
+    omega (arith, e, f, small, some)

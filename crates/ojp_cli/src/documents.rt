@@ -14,6 +14,9 @@ use ojp_outside::{Failed, Source};
 use ojp_values::Doc;
 use std::alloc::Global;
 
+/// The most bytes of a read.
+const PIECE: usize = 8192;
+
 /// Reads the one document that the input has left: to the end of the input, or to the first bytes
 /// that refuse it whatever follows.
 ///
@@ -30,8 +33,10 @@ pub(crate) fn read_document<I: Source>(
     ensures taken { LosesPrefix (I.left input.old) (I.left input.new) }
 {
     let mut reader = Reader::new(alloc, want);
-    let mut piece = [0u8; 8192];
-    'reading: for _ in 0..u64::MAX {
+    let mut piece = [0u8; PIECE];
+    'reading: loop {
+        // The loop ends: each turn feeds a byte at least, and what was fed is counted in 64 bits.
+        let _ = reader.count();
         let count = match input.read(&mut piece) {
             Ok(count) => count,
             Err(Failed) => return Err(Stop::Input),
@@ -44,8 +49,6 @@ pub(crate) fn read_document<I: Source>(
             Err(refused) => return Err(stop_for(refused)),
         }
     }
-    // So many pieces, each of a byte at least, are more than memory holds.
-    Err(Stop::Memory)
 }
 
 /// Feeds the whole piece; bytes of it that stand behind a document are refused.

@@ -1,8 +1,10 @@
-use Rattle.std.proofs.Common.{◌≡◌, ◌<◌, ℕ, [], refl, sym, subst, take, length, arith}
+use Rattle.std.proofs.Common.{◌≡◌, ◌<◌, ◌^◌, ℕ, [], refl, sym, subst, take, length, arith}
+use Rattle.std.proofs.lemmas.List.{length-take}
+use Rattle.ojp_decode.specs.Progress.{bytes_of}
 use Rattle.std.specs.Io.KnownBytes.{Consumes}
 use Rattle.ojp_cli.specs.Inputs.{ReadStops}
 use Rattle.ojp_cli.specs.declared.stops.Stop.{Stop}
-use Rattle.ojp_cli.proofs.PieceFacts.{HasFed-start, HasFed-more, took_is_open, sees_end, ends_all, ends_taken, stops_early, has_lost, kept_lost, fed_lost, rose_later}
+use Rattle.ojp_cli.proofs.PieceFacts.{HasFed-start, HasFed-more, took_is_open, sees_end, ends_all, ends_taken, stops_early, has_lost, kept_lost, fed_grows, rose_later}
 use Rattle.ojp_cli.proofs.documents.read_document.Goals as goal
 
 pub reading-init : goal.reading-init
@@ -52,5 +54,9 @@ reading-preserved g c = (
   omega (arith, c.read.auto.into, c.reading.invariant.1),
 )
 
-pub returns-clause-taken : goal.returns-clause-taken
-returns-clause-taken g c = fed_lost _ _ _ _ _ _ c.reading.invariant.0
+pub reading-smaller : goal.reading-smaller
+reading-smaller g c =
+    let some : 0 < length (take c.in-Ok.count c.read.new.into) = omega (arith, length-take c.in-Ok.count c.read.new.into, c.if-count-eq0.false, c.in-Ok.ensures.bound) in
+    let small : length (bytes_of c.reading.reader) < 2 ^ 64 = omega (arith, c.count.ensures) in
+    fed_grows _ _ (take c.in-Ok.count c.read.new.into) c.reading.reader c.feed_all.new.reader (2 ^ 64) small some c.reading.invariant.0.took
+    (c.in-Ok-feed_all.ensures _ _ c.reading.invariant.0.took)
