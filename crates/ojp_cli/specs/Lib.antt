@@ -4,5 +4,6 @@ pub mod Commands
 pub mod Stops
 pub mod Around
 pub mod Inputs
+pub mod Pieces
 pub mod Plans
 pub mod Checks

@@ -1,17 +1,24 @@
-//! One document, read from an input to its end.
+//! One document, read from an input in pieces.
 
-ghost use Rattle.std.specs.Prelude.{IfOk, IfErr};
+ghost use Rattle.std.specs.Prelude.{◌≡◌, ◌≤◌, ◌++◌, IfOk, IfErr, length, List, take, ℕ};
 ghost use Rattle.ojp_outside.specs.Known.{LosesPrefix};
+ghost use Rattle.ojp_grammar.specs.declared.refusals.Want.{Want};
 ghost use Rattle.ojp_cli.specs.Inputs.{IsDocumentOf, ReadStops};
+ghost use Rattle.ojp_cli.specs.Pieces.{FeedsAll, Finishes, IsOpen, stop_of, Took};
+ghost use Rattle.ojp_decode.specs.Progress.{whole};
 
 use crate::stops::Stop;
-use ojp_grammar::refusals::{Want, WholeRefused};
-use ojp_grammar::whole::whole;
-use ojp_outside::{ReadRefused, Source, read_all};
+use ojp_decode::{Fed, ReadRefused, Reader};
+use ojp_grammar::refusals::Want;
+use ojp_outside::{Failed, Source};
 use ojp_values::Doc;
 use std::alloc::Global;
 
-/// Reads the one document that the input has left, to the end of the input.
+/// The most bytes of a read.
+const PIECE: usize = 8192;
+
+/// Reads the one document that the input has left: to the end of the input, or to the first bytes
+/// that refuse it whatever follows.
 ///
 /// # Errors
 ///
@@ -25,17 +32,66 @@ pub(crate) fn read_document<I: Source>(
     ensures err { IfErr result (λ stop. ReadStops want (I.left input.old) (I.faults input.old) (I.faults input.new) stop) }
     ensures taken { LosesPrefix (I.left input.old) (I.left input.new) }
 {
-    let bytes = match read_all(alloc, input, usize::MAX) {
-        Ok(bytes) => bytes,
-        Err(ReadRefused::Failed) => return Err(Stop::Input),
-        Err(ReadRefused::NoMemory) => return Err(Stop::Memory),
-    };
-    match whole(alloc, want, &bytes) {
+    let mut reader = Reader::new(alloc, want);
+    let mut piece = [0u8; PIECE];
+    'reading: loop {
+        // The loop ends: each turn feeds a byte at least, and what was fed is counted in 64 bits.
+        let _ = reader.count();
+        let count = match input.read(&mut piece) {
+            Ok(count) => count,
+            Err(Failed) => return Err(Stop::Input),
+        };
+        if count == 0 {
+            return finish(reader);
+        }
+        match feed_all(&mut reader, &piece[..count]) {
+            Ok(()) => {}
+            Err(refused) => return Err(stop_for(refused)),
+        }
+    }
+}
+
+/// Feeds the whole piece; bytes of it that stand behind a document are refused.
+fn feed_all(reader: &mut Reader, piece: &[u8]) -> Result<(), ReadRefused>
+    requires { IsOpen reader.old }
+    ensures { (want : Want) (fed : List ℕ) → Took want fed reader.old → FeedsAll want fed piece.now result reader.new }
+{
+    match reader.feed(piece) {
+        Ok(Fed::More) => Ok(()),
+        Ok(Fed::Whole { used }) => feed_behind(reader, piece, used),
+        Err(refused) => Err(refused),
+    }
+}
+
+/// Feeds what stands in the piece behind a document that uses so many bytes of it.
+fn feed_behind(reader: &mut Reader, piece: &[u8], used: usize) -> Result<(), ReadRefused>
+    requires { used ≤ length piece.now }
+    ensures { (want : Want) (fed : List ℕ) → reader.old ≡ whole want (fed ++ take used piece.now) → FeedsAll want fed piece.now result reader.new }
+{
+    match reader.feed(&piece[used..]) {
+        Ok(_) => Ok(()),
+        Err(refused) => Err(refused),
+    }
+}
+
+/// The document, at the end of the input.
+fn finish(reader: Reader) -> Result<Doc, Stop>
+    ensures { (want : Want) (fed : List ℕ) → Took want fed reader → Finishes want fed result }
+{
+    match reader.finish() {
         Ok(document) => Ok(document),
-        Err(WholeRefused::At(refused)) => Err(Stop::Document {
+        Err(refused) => Err(stop_for(refused)),
+    }
+}
+
+fn stop_for(refused: ReadRefused) -> Stop
+    ensures { result ≡ stop_of refused }
+{
+    match refused {
+        ReadRefused::At(refused) => Stop::Document {
             at: refused.at,
             reason: refused.reason,
-        }),
-        Err(WholeRefused::NoMemory) => Err(Stop::Memory),
+        },
+        ReadRefused::NoMemory => Stop::Memory,
     }
 }

@@ -1,9 +1,9 @@
 //! Documents, read in pieces.
-ghost use Rattle.std.specs.Prelude.{◌≡◌, ◌++◌, ℕ, [], List, Ok, Err};
+ghost use Rattle.std.specs.Prelude.{◌≡◌, ◌++◌, ℕ, [], List, length, Ok, Err};
 ghost use Rattle.ojp_grammar.specs.declared.refusals.Refused.{Refused};
 ghost use Rattle.ojp_grammar.specs.declared.refusals.Want.{Want};
 ghost use Rattle.ojp_grammar.specs.Running.{IsAt};
-ghost use Rattle.ojp_decode.specs.Progress.{reading, whole, over, spent};
+ghost use Rattle.ojp_decode.specs.Progress.{bytes_of, reading, whole, over, spent};
 ghost use Rattle.ojp_decode.specs.Feeding.{BeginsNone, FeedsOn, FeedsBehind, IsCut, IsRead};
 ghost use Rattle.ojp_decode.specs.Standing.{ReadsOn, answer_at, stage_of};
 ghost use Rattle.ojp_decode.specs.declared.fed.ReadRefused.TheVariants as refusals;
@@ -124,6 +124,16 @@ impl Reader {
                 stack: Vec::new(alloc),
             },
             bytes: Vec::new(alloc),
+        }
+    }
+
+    /// How many bytes were fed, of a whole document its own; none behind a refusal.
+    pub fn count(&self) -> usize
+        ensures { result ≡ length (bytes_of self.now) }
+    {
+        match self.stage {
+            Stage::Over(_) => 0,
+            Stage::Fresh | Stage::Reading | Stage::Whole => self.bytes.len(),
         }
     }
 

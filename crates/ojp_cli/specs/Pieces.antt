@@ -1,0 +1,50 @@
+-- A reader that is fed an input piece by piece.
+use Rattle.std.specs.Prelude.{◌≡◌, ◌++◌, Result, Ok, Err}
+use Rattle.ojp_values.specs.Texts.{Text}
+use Rattle.ojp_values.specs.declared.documents.Doc.{Doc}
+use Rattle.ojp_grammar.specs.Documents.{IsWanted, Spells}
+use Rattle.ojp_grammar.specs.Places.{IsRefused}
+use Rattle.ojp_grammar.specs.declared.refusals.Want.{Want}
+use Rattle.ojp_decode.specs.Progress.{Progress, reading, whole, over, spent}
+use Rattle.ojp_decode.specs.Feeding.{StaysRefused}
+use Rattle.ojp_decode.specs.declared.fed.ReadRefused.{ReadRefused}
+use Rattle.ojp_decode.specs.declared.fed.ReadRefused.TheVariants.{At, NoMemory}
+use Rattle.ojp_cli.specs.declared.stops.Stop.{Stop}
+use Rattle.ojp_cli.specs.declared.stops.Stop.TheVariants.{Document, Words, File, FileTooLong, Input, Output, Memory, Table}
+
+-- the reader took these bytes, all that it was fed: a document goes on in them, or ends with them
+abbrev pub Took : Want → Text → Progress → Type 0
+Took want fed (reading meant bytes) = (meant ≡ want) × (bytes ≡ fed)
+Took want fed (whole meant bytes) = (meant ≡ want) × (bytes ≡ fed)
+Took want fed (over refused) = ⊥
+Took want fed spent = ⊥
+
+-- nothing was refused
+abbrev pub IsOpen : Progress → Type 0
+IsOpen (reading want bytes) = Unit {0}
+IsOpen (whole want bytes) = Unit {0}
+IsOpen (over refused) = ⊥
+IsOpen spent = ⊥
+
+-- the reader took the whole piece, or all the bytes are refused whatever follows
+abbrev pub FeedsAll : Want → Text → Text → Result (Unit {0}) ReadRefused → Progress → Type 0
+FeedsAll want fed piece (Ok done) new = Took want (fed ++ piece) new
+FeedsAll want fed piece (Err (At refused)) new = StaysRefused want (fed ++ piece) refused
+FeedsAll want fed piece (Err NoMemory) new = Unit {0}
+
+-- the bytes spell the document, or no wanted one
+abbrev pub Finishes : Want → Text → Result Doc Stop → Type 0
+Finishes want fed (Ok doc) = IsWanted want doc × Spells doc fed
+Finishes want fed (Err (Document at reason)) = IsRefused want fed at reason
+Finishes want fed (Err Memory) = Unit {0}
+Finishes want fed (Err Words) = ⊥
+Finishes want fed (Err File) = ⊥
+Finishes want fed (Err FileTooLong) = ⊥
+Finishes want fed (Err Input) = ⊥
+Finishes want fed (Err Output) = ⊥
+Finishes want fed (Err (Table line reason)) = ⊥
+
+-- the stop for a refusal of a document
+abbrev pub stop_of : ReadRefused → Stop
+stop_of (At refused) = Document refused.at refused.reason
+stop_of NoMemory = Memory
