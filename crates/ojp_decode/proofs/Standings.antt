@@ -32,7 +32,7 @@ use Rattle.ojp_decode.specs.declared.fed.Stage.{Stage}
 use Rattle.ojp_decode.specs.declared.fed.Stage.TheVariants.{Fresh, Reading, Whole, Over}
 use Rattle.ojp_decode.specs.declared.fed.ReadRefused.{ReadRefused}
 use Rattle.ojp_decode.specs.declared.fed.ReadRefused.TheVariants.{At as Refusal, NoMemory}
-use Rattle.ojp_decode.specs.Progress.{Progress, reading, whole, over, spent}
+use Rattle.ojp_decode.specs.Progress.{reading, whole, over}
 use Rattle.ojp_decode.specs.Standing.{progress_of, stage_of, answer_at, IsSound, IsWaiting, ReadsOn}
 use Rattle.ojp_decode.proofs.Following.{nothing_left, sticks_more, reading_more}
 

@@ -22,7 +22,7 @@ BeginsNone want bytes = (doc : Doc) (behind : List ℕ) → IsWanted want doc �
 abbrev pub StaysRefused : Want → List ℕ → Refused → Type 0
 StaysRefused want bytes refused = (more : List ℕ) → IsRefused want (bytes ++ more) refused.at refused.reason
 
--- no wanted document begins the bytes, and they are refused since they end where more may come
+-- no wanted document begins the bytes, and they are refused as truncated, at a place where more may come
 pub record Awaits (want : Want) (bytes : List ℕ) : Type 0 where
   pub none : BeginsNone want bytes
   pub at : ℕ
@@ -33,7 +33,7 @@ pub record Ends (want : Want) (bytes piece : List ℕ) (used : ℕ) : Type 0 whe
   pub within : used ≤ length piece
   pub whole : IsWhole want (bytes ++ take used piece)
 
--- no wanted document begins the bytes, and none does whatever follows
+-- no wanted document begins the bytes, and whatever follows they are refused here, not as truncated
 pub record Decides (want : Want) (bytes : List ℕ) (refused : Refused) : Type 0 where
   pub none : BeginsNone want bytes
   pub reason : refused.reason ≢ Truncated

@@ -1,5 +1,5 @@
 -- Where a reader's machine stands in the bytes that are kept.
-use Rattle.std.specs.Prelude.{◌≡◌, ℕ, ◌≤◌, List, [], ◌++◌, length, take, drop, Result, Ok, Err}
+use Rattle.std.specs.Prelude.{◌≡◌, ℕ, List, [], ◌++◌, take, drop, Result, Ok, Err}
 use Rattle.ojp_grammar.specs.declared.machine.Machine.{Machine}
 use Rattle.ojp_grammar.specs.declared.refusals.Reason.{Reason}
 use Rattle.ojp_grammar.specs.declared.refusals.Reason.TheVariants.{Markup, Field, Truncated, Trailing}

@@ -15,3 +15,6 @@ mod stop_events;
 mod trips;
 
 pub use documents::{length, write};
+
+#[cfg(test)]
+mod tests;

@@ -87,3 +87,6 @@ fn read_event_kind(text: &[u8]) -> Option<EventKind>
         None
     }
 }
+
+#[cfg(test)]
+mod tests;

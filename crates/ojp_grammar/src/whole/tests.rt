@@ -4,11 +4,13 @@ use super::*;
 use ojp_values::kinds::Kind;
 use std::test::Fail;
 
-const REQUEST: &[u8] =
-    b"<?xml version=\"1.0\" encoding=\"UTF-8\"?><OJP xmlns=\"http://www.siri.org.uk/siri\" xmlns:ojp=\"http://www.vdv.de/ojp\" version=\"1.0\"><OJPRequest><ServiceRequest><ojp:OJPTripRequest><ojp:Origin><ojp:PlaceRef><StopPointRef>AA:a</StopPointRef></ojp:PlaceRef><ojp:DepArrTime>2024-05-06T08:00:00Z</ojp:DepArrTime></ojp:Origin><ojp:Destination><ojp:PlaceRef><StopPointRef>AA:b</StopPointRef></ojp:PlaceRef></ojp:Destination></ojp:OJPTripRequest></ServiceRequest></OJPRequest></OJP>";
+fn request_bytes() -> &'static [u8] {
+    b"<?xml version=\"1.0\" encoding=\"UTF-8\"?><OJP xmlns=\"http://www.siri.org.uk/siri\" xmlns:ojp=\"http://www.vdv.de/ojp\" version=\"1.0\"><OJPRequest><ServiceRequest><ojp:OJPTripRequest><ojp:Origin><ojp:PlaceRef><StopPointRef>AA:a</StopPointRef></ojp:PlaceRef><ojp:DepArrTime>2024-05-06T08:00:00Z</ojp:DepArrTime></ojp:Origin><ojp:Destination><ojp:PlaceRef><StopPointRef>AA:b</StopPointRef></ojp:PlaceRef></ojp:Destination></ojp:OJPTripRequest></ServiceRequest></OJPRequest></OJP>"
+}
 
-const DELIVERY: &[u8] =
-    b"<?xml version=\"1.0\" encoding=\"UTF-8\"?><OJP xmlns=\"http://www.siri.org.uk/siri\" xmlns:ojp=\"http://www.vdv.de/ojp\" version=\"1.0\"><OJPResponse><ServiceDelivery><ojp:OJPTripDelivery><ojp:TripResult><ojp:Trip><ojp:Duration>PT600S</ojp:Duration><ojp:StartTime>2024-05-06T08:10:00Z</ojp:StartTime><ojp:EndTime>2024-05-06T08:20:00Z</ojp:EndTime><ojp:Transfers>0</ojp:Transfers><ojp:TripLeg><ojp:TimedLeg><ojp:LegBoard><StopPointRef>AA:a</StopPointRef><ojp:StopPointName>Alder &amp; Beech</ojp:StopPointName><ojp:TimetabledTime>2024-05-06T08:10:00Z</ojp:TimetabledTime></ojp:LegBoard><ojp:LegAlight><StopPointRef>AA:b</StopPointRef><ojp:StopPointName>Beech</ojp:StopPointName><ojp:TimetabledTime>2024-05-06T08:20:00Z</ojp:TimetabledTime></ojp:LegAlight><ojp:Service><ojp:OperatingDayRef>2024-05-06</ojp:OperatingDayRef><ojp:JourneyRef>J1</ojp:JourneyRef><LineRef>L5</LineRef><ojp:OperatorRef>AA</ojp:OperatorRef></ojp:Service></ojp:TimedLeg></ojp:TripLeg></ojp:Trip></ojp:TripResult></ojp:OJPTripDelivery></ServiceDelivery></OJPResponse></OJP>";
+fn delivery_bytes() -> &'static [u8] {
+    b"<?xml version=\"1.0\" encoding=\"UTF-8\"?><OJP xmlns=\"http://www.siri.org.uk/siri\" xmlns:ojp=\"http://www.vdv.de/ojp\" version=\"1.0\"><OJPResponse><ServiceDelivery><ojp:OJPTripDelivery><ojp:TripResult><ojp:Trip><ojp:Duration>PT600S</ojp:Duration><ojp:StartTime>2024-05-06T08:10:00Z</ojp:StartTime><ojp:EndTime>2024-05-06T08:20:00Z</ojp:EndTime><ojp:Transfers>0</ojp:Transfers><ojp:TripLeg><ojp:TimedLeg><ojp:LegBoard><StopPointRef>AA:a</StopPointRef><ojp:StopPointName>Alder &amp; Beech</ojp:StopPointName><ojp:TimetabledTime>2024-05-06T08:10:00Z</ojp:TimetabledTime></ojp:LegBoard><ojp:LegAlight><StopPointRef>AA:b</StopPointRef><ojp:StopPointName>Beech</ojp:StopPointName><ojp:TimetabledTime>2024-05-06T08:20:00Z</ojp:TimetabledTime></ojp:LegAlight><ojp:Service><ojp:OperatingDayRef>2024-05-06</ojp:OperatingDayRef><ojp:JourneyRef>J1</ojp:JourneyRef><LineRef>L5</LineRef><ojp:OperatorRef>AA</ojp:OperatorRef></ojp:Service></ojp:TimedLeg></ojp:TripLeg></ojp:Trip></ojp:TripResult></ojp:OJPTripDelivery></ServiceDelivery></OJPResponse></OJP>"
+}
 
 /// The refusal of bytes, if they are refused.
 fn refusal(alloc: Global, want: Want, bytes: &[u8]) -> Option<WholeRefused> {
@@ -25,11 +27,11 @@ fn at(at: u64, reason: Reason) -> Option<WholeRefused> {
 #[test]
 fn requests_are_read(rt: HostRuntime) -> Result<(), Fail> {
     let alloc = rt.alloc();
-    assert_eq!(rt; REQUEST.len(), 469);
-    assert_eq!(rt; refusal(alloc, Want::Request, REQUEST), None);
-    assert_eq!(rt; refusal(alloc, Want::Either, REQUEST), None);
+    assert_eq!(rt; request_bytes().len(), 469);
+    assert_eq!(rt; refusal(alloc, Want::Request, request_bytes()), None);
+    assert_eq!(rt; refusal(alloc, Want::Either, request_bytes()), None);
     assert_eq!(rt;
-        refusal(alloc, Want::Delivery, REQUEST),
+        refusal(alloc, Want::Delivery, request_bytes()),
         at(127, Reason::Markup)
     );
     Ok(())
@@ -38,21 +40,26 @@ fn requests_are_read(rt: HostRuntime) -> Result<(), Fail> {
 #[test]
 fn deliveries_are_read(rt: HostRuntime) -> Result<(), Fail> {
     let alloc = rt.alloc();
-    assert_eq!(rt; DELIVERY.len(), 1034);
-    assert_eq!(rt; refusal(alloc, Want::Delivery, DELIVERY), None);
-    assert_eq!(rt; refusal(alloc, Want::Either, DELIVERY), None);
+    assert_eq!(rt; delivery_bytes().len(), 1034);
+    assert_eq!(rt; refusal(alloc, Want::Delivery, delivery_bytes()), None);
+    assert_eq!(rt; refusal(alloc, Want::Either, delivery_bytes()), None);
     assert_eq!(rt;
-        refusal(alloc, Want::Request, DELIVERY),
+        refusal(alloc, Want::Request, delivery_bytes()),
         at(127, Reason::Markup)
     );
     Ok(())
+}
+
+/// The bytes before a place and behind it.
+fn cut_at(bytes: &'static [u8], place: usize) -> (&'static [u8], &'static [u8]) {
+    bytes.split_at_checked(place).unwrap_or((bytes, b""))
 }
 
 #[test]
 fn places_of_refusal(rt: HostRuntime) -> Result<(), Fail> {
     let alloc = rt.alloc();
     assert_eq!(rt; refusal(alloc, Want::Either, b""), at(0, Reason::Truncated));
-    let cut = DELIVERY.split_at(471).0;
+    let cut = cut_at(delivery_bytes(), 471).0;
     assert_eq!(rt;
         refusal(alloc, Want::Either, cut),
         at(462, Reason::Truncated)
@@ -63,13 +70,13 @@ fn places_of_refusal(rt: HostRuntime) -> Result<(), Fail> {
         refusal(alloc, Want::Either, ended.as_slice()),
         at(462, Reason::Field(Kind::Name))
     );
-    let mut longer = Vec::from_slice(alloc, DELIVERY)?;
+    let mut longer = Vec::from_slice(alloc, delivery_bytes())?;
     longer.push(b'\n')?;
     assert_eq!(rt;
         refusal(alloc, Want::Delivery, longer.as_slice()),
         at(1034, Reason::Trailing)
     );
-    let (front, behind) = REQUEST.split_at(139);
+    let (front, behind) = cut_at(request_bytes(), 139);
     let mut spaced = Vec::from_slice(alloc, front)?;
     spaced.push(b'\n')?;
     spaced.extend_from_slice(behind)?;
@@ -79,3 +86,5 @@ fn places_of_refusal(rt: HostRuntime) -> Result<(), Fail> {
     );
     Ok(())
 }
+
+mod choices;
