@@ -2,7 +2,7 @@
 
 use crate::run_here;
 use crate::tests::examples::{Case, documents, refusals, trips, words};
-use crate::tests::texts::{a_to_b, first_table};
+use crate::tests::texts::{a_to_b, first_table, line_feed_between_tags};
 use ojp_outside::{MemSink, MemSource, MemStore};
 use std::alloc::{AllocError, Global};
 use std::process::Abort;
@@ -135,24 +135,28 @@ fn stopped<'a>(input: &'a [u8], faults: &'a str) -> Case<'a> {
 
 #[test]
 fn a_failure_outside_is_named(rt: HostRuntime) -> Result<(), Fail> {
-    let cases: [(&[u64], &[u64], &[u64], u8, &str); 4] = [
-        (&[1], &[], &[], 3, "store: a.tt\n"),
-        (&[], &[1], &[], 3, "input\n"),
-        (&[], &[3], &[], 3, "input\n"),
-        (&[], &[], &[1], 4, "output\n"),
+    let request = a_to_b();
+    // The second read gives the bytes that refuse the document: the third is not called.
+    let refused = line_feed_between_tags();
+    let cases: [(&str, &[u64], &[u64], &[u64], u8, &str); 5] = [
+        (request, &[1], &[], &[], 3, "store: a.tt\n"),
+        (request, &[], &[1], &[], 3, "input\n"),
+        (request, &[], &[3], &[], 3, "input\n"),
+        (request, &[], &[], &[1], 4, "output\n"),
+        (refused, &[], &[3], &[], 1, "byte 139: Markup\n"),
     ];
-    for (store, input, output, status, faults) in cases {
+    for (input, store, reads, output, status, faults) in cases {
         let case = Case {
             words: &["plan", "a.tt"],
             table: first_table(),
-            input: a_to_b().as_bytes(),
+            input: input.as_bytes(),
             status,
             output: "",
             faults,
         };
         let failing = Failing {
             store,
-            input,
+            input: reads,
             output,
         };
         expect(&rt, &case, &failing)?;
