@@ -1,7 +1,8 @@
 //! Timetable files that are refused, and the questions to one that is read.
 
+use crate::tests::examples::Case;
 use crate::tests::texts::a_to_b;
-use crate::tests::{Case, NOTHING, expect};
+use crate::tests::{NOTHING, expect};
 use ojp_timetable::table::Timetable;
 use ojp_values::{Day, StopRef};
 use std::alloc::{AllocError, Global};
@@ -21,9 +22,9 @@ fn with_tail(alloc: Global, tail: &str) -> Result<String, AllocError> {
     Ok(text)
 }
 
-#[test]
-fn a_line_is_refused_for_its_first_reason(rt: HostRuntime) -> Result<(), Fail> {
-    let cases = [
+/// What stands behind the unfinished file, and the refusal of the whole.
+fn refused_tails() -> [(&'static str, &'static str); 13] {
+    [
         ("", "a.tt: line 9: line form\n"),
         ("call AA:a 30000 - -\n", "a.tt: line 9: line form\n"),
         ("call AA:a 129601 -\n", "a.tt: line 9: value\n"),
@@ -58,33 +59,46 @@ fn a_line_is_refused_for_its_first_reason(rt: HostRuntime) -> Result<(), Fail> {
             "call AA:a 29400 -\nneighbour BB:a BB 60\n",
             "a.tt: line 10: foreign stop\n",
         ),
-    ];
-    for (tail, told) in cases {
+    ]
+}
+
+#[test]
+fn a_line_is_refused_for_its_first_reason(rt: HostRuntime) -> Result<(), Fail> {
+    for (tail, told) in refused_tails() {
         let text = with_tail(rt.alloc(), tail)?;
         let case = Case {
             words: &["plan", "a.tt"],
-            file: "a.tt",
             table: text.as_str(),
             input: a_to_b().as_bytes(),
+            status: 6,
+            output: "",
+            faults: told,
         };
-        expect(&rt, &case, &NOTHING, 6, "", told)?;
+        expect(&rt, &case, &NOTHING)?;
     }
     Ok(())
 }
 
 #[test]
-fn a_timetable_answers_questions(rt: HostRuntime) -> Result<(), Fail> {
+fn a_timetable_knows_its_stops(rt: HostRuntime) -> Result<(), Fail> {
     let Ok(table) = Timetable::read(rt.alloc(), finished().as_bytes()) else {
         panic!(rt; "no timetable");
     };
-    let origin = StopRef::new("AA:a")?;
     let point = StopRef::new("x:P")?;
     assert_eq!(rt; table.region().text(), b"AA".as_slice());
     assert!(rt; table.has(point));
     assert_eq!(rt; table.change(point), Some(90));
     assert_eq!(rt; table.place_of(point), Some(1));
+    Ok(())
+}
+
+#[test]
+fn a_timetable_knows_its_places(rt: HostRuntime) -> Result<(), Fail> {
+    let Ok(table) = Timetable::read(rt.alloc(), finished().as_bytes()) else {
+        panic!(rt; "no timetable");
+    };
     assert_eq!(rt; table.places(), 2);
-    assert_eq!(rt; table.place(0).stop, origin);
+    assert_eq!(rt; table.place(0).stop, StopRef::new("AA:a")?);
     assert_eq!(rt; table.exchanges(), 1);
     assert_eq!(rt; table.exchange(0).neighbours.len(), 1);
     Ok(())
@@ -101,6 +115,14 @@ fn a_timetable_knows_its_runs(rt: HostRuntime) -> Result<(), Fail> {
     assert!(rt; table.runs_on(0, monday));
     assert!(rt; !table.runs_on(0, Day::new(19_847)?));
     assert_eq!(rt; table.moment(monday, 29_400).seconds(), 1_714_983_000);
+    Ok(())
+}
+
+#[test]
+fn a_timetable_knows_its_journeys(rt: HostRuntime) -> Result<(), Fail> {
+    let Ok(table) = Timetable::read(rt.alloc(), finished().as_bytes()) else {
+        panic!(rt; "no timetable");
+    };
     assert_eq!(rt; table.journeys(), 1);
     assert_eq!(rt; table.journey(0).calls, 2);
     assert_eq!(rt; table.calls(0).len(), 2);
