@@ -6,6 +6,7 @@ use crate::tests::{NOTHING, expect};
 use ojp_timetable::table::Timetable;
 use ojp_values::{Day, StopRef};
 use std::alloc::{AllocError, Global};
+use std::process::Abort;
 use std::test::Fail;
 
 fn unfinished() -> &'static str {
@@ -79,11 +80,7 @@ fn a_line_is_refused_for_its_first_reason(rt: HostRuntime) -> Result<(), Fail> {
     Ok(())
 }
 
-#[test]
-fn a_timetable_knows_its_stops(rt: HostRuntime) -> Result<(), Fail> {
-    let Ok(table) = Timetable::read(rt.alloc(), finished().as_bytes()) else {
-        panic!(rt; "no timetable");
-    };
+fn expect_stops<R: Abort>(rt: &R, table: &Timetable) -> Result<(), Fail> {
     let point = StopRef::new("x:P")?;
     assert_eq!(rt; table.region().text(), b"AA".as_slice());
     assert!(rt; table.has(point));
@@ -92,11 +89,7 @@ fn a_timetable_knows_its_stops(rt: HostRuntime) -> Result<(), Fail> {
     Ok(())
 }
 
-#[test]
-fn a_timetable_knows_its_places(rt: HostRuntime) -> Result<(), Fail> {
-    let Ok(table) = Timetable::read(rt.alloc(), finished().as_bytes()) else {
-        panic!(rt; "no timetable");
-    };
+fn expect_places<R: Abort>(rt: &R, table: &Timetable) -> Result<(), Fail> {
     assert_eq!(rt; table.places(), 2);
     assert_eq!(rt; table.place(0).stop, StopRef::new("AA:a")?);
     assert_eq!(rt; table.exchanges(), 1);
@@ -104,11 +97,7 @@ fn a_timetable_knows_its_places(rt: HostRuntime) -> Result<(), Fail> {
     Ok(())
 }
 
-#[test]
-fn a_timetable_knows_its_runs(rt: HostRuntime) -> Result<(), Fail> {
-    let Ok(table) = Timetable::read(rt.alloc(), finished().as_bytes()) else {
-        panic!(rt; "no timetable");
-    };
+fn expect_runs<R: Abort>(rt: &R, table: &Timetable) -> Result<(), Fail> {
     // Monday 2024-05-06, and the Saturday before.
     let monday = Day::new(19_849)?;
     assert_eq!(rt; table.services(), 1);
@@ -118,13 +107,20 @@ fn a_timetable_knows_its_runs(rt: HostRuntime) -> Result<(), Fail> {
     Ok(())
 }
 
-#[test]
-fn a_timetable_knows_its_journeys(rt: HostRuntime) -> Result<(), Fail> {
-    let Ok(table) = Timetable::read(rt.alloc(), finished().as_bytes()) else {
-        panic!(rt; "no timetable");
-    };
+fn expect_journeys<R: Abort>(rt: &R, table: &Timetable) {
     assert_eq!(rt; table.journeys(), 1);
     assert_eq!(rt; table.journey(0).calls, 2);
     assert_eq!(rt; table.calls(0).len(), 2);
+}
+
+#[test]
+fn a_timetable_answers_questions(rt: HostRuntime) -> Result<(), Fail> {
+    let Ok(table) = Timetable::read(rt.alloc(), finished().as_bytes()) else {
+        panic!(rt; "no timetable");
+    };
+    expect_stops(&rt, &table)?;
+    expect_places(&rt, &table)?;
+    expect_runs(&rt, &table)?;
+    expect_journeys(&rt, &table);
     Ok(())
 }
