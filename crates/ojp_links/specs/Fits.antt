@@ -1,7 +1,7 @@
 -- Which replies fit an ask: what a reply must be, so far as the ask and the region's code tell.
-use Rattle.std.specs.Prelude.{◌≡◌, ◌≢◌, ℕ, ◌+◌, ◌<◌, ◌≤◌, Bool, true, List, [], ◌∷◌, Option, Some, None, length}
+use Rattle.std.specs.Prelude.{◌≡◌, ℕ, ◌+◌, ◌<◌, ◌≤◌, List, [], ◌∷◌, Option, Some, None, length}
 use Rattle.ojp_values.specs.Lists.{Each, Pairwise, IsRising}
-use Rattle.ojp_values.specs.Texts.{Text, text_lt, is_exchange}
+use Rattle.ojp_values.specs.Texts.{Text}
 use Rattle.ojp_values.specs.declared.asks.TripAsk.{TripAsk}
 use Rattle.ojp_values.specs.declared.asks.MultiAsk.{MultiAsk}
 use Rattle.ojp_values.specs.declared.asks.EventAsk.{EventAsk}
@@ -10,7 +10,6 @@ use Rattle.ojp_values.specs.declared.asks.Ask.TheVariants as asks
 use Rattle.ojp_values.specs.declared.trips.Leg.{Leg}
 use Rattle.ojp_values.specs.declared.trips.Trip.{Trip}
 use Rattle.ojp_values.specs.declared.trips.Event.{Event}
-use Rattle.ojp_values.specs.declared.trips.Neighbour.{Neighbour}
 use Rattle.ojp_values.specs.declared.trips.Point.{Point}
 use Rattle.ojp_values.specs.declared.replies.Fault.TheVariants as faults
 use Rattle.ojp_values.specs.declared.replies.TripResult.{TripResult}
@@ -27,6 +26,7 @@ use Rattle.ojp_values.specs.declared.replies.Delivery.{Delivery}
 use Rattle.ojp_values.specs.declared.replies.Delivery.TheVariants as deliveries
 use Rattle.ojp_timetable.specs.Runs.{day_long}
 use Rattle.ojp_timetable.specs.Answers.{Agrees, event_lt}
+use Rattle.ojp_timetable.specs.Points.{IsPointOf, point_lt}
 
 -- after the last leg each next leg of the region boards where the one before alighted, a second later at
 -- least; the last alights at the stop d at a
@@ -78,28 +78,13 @@ FitsEventsReply region ask (events_replies.Events events) =
 FitsEventsReply region ask (events_replies.Fault (faults.StopUnknown stop)) = stop ≡ ask.stop
 FitsEventsReply region ask (events_replies.Fault fault) = ⊥
 
--- neighbours are ordered by their codes
-abbrev pub neighbour_lt : Neighbour → Neighbour → Bool
-neighbour_lt x y = text_lt x.code y.code
-
--- points are ordered by their references
-abbrev pub point_lt : Point → Point → Bool
-point_lt x y = text_lt x.stop y.stop
-
--- the entry is an exchange point of the region, with rising neighbours other than the region
-pub record FitsPoint (region : Text) (point : Point) : Type 0 where
-  pub of_region : point.region ≡ region
-  pub exchange : is_exchange point.stop ≡ true
-  pub rising : IsRising neighbour_lt point.neighbours
-  pub others : Each (λ (neighbour : Neighbour). neighbour.code ≢ region) point.neighbours
-
 -- a points reply has at most 255 rising entries of the region; where a place was asked it has the one entry of
 -- that place, or says that it is unknown
 abbrev pub FitsPointsReply : Text → Option Text → PointsReply → Type 0
 FitsPointsReply region None (points_replies.Points points) =
-    (length points ≤ 255) × Each (FitsPoint region) points × IsRising point_lt points
+    (length points ≤ 255) × Each (IsPointOf region) points × IsRising point_lt points
 FitsPointsReply region (Some place) (points_replies.Points points) =
-    (point : Point) × (points ≡ point ∷ []) × (point.stop ≡ place) × FitsPoint region point
+    (point : Point) × (points ≡ point ∷ []) × (point.stop ≡ place) × IsPointOf region point
 FitsPointsReply region (Some place) (points_replies.Fault (faults.StopUnknown stop)) = stop ≡ place
 FitsPointsReply region place (points_replies.Fault fault) = ⊥
 

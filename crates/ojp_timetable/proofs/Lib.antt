@@ -14,6 +14,7 @@ pub mod AmongFacts
 pub mod WellFacts
 pub mod ListFacts
 pub mod PointOrder
+pub mod PointLimits
 pub mod PointsKept
 pub mod RefusalFacts
 pub mod NoonOnce

@@ -12,7 +12,7 @@ use Rattle.ojp_values.specs.Texts.{Text, same, text_lt}
 use Rattle.ojp_values.specs.declared.trips.Point.{Point}
 use Rattle.ojp_values.specs.declared.trips.Neighbour.{Neighbour}
 use Rattle.ojp_timetable.specs.Contents.{point_with, points_with, with_point}
-use Rattle.ojp_timetable.specs.Points.{IsWellPoint, neighbour_lt, point_lt}
+use Rattle.ojp_timetable.specs.Points.{IsPointOf, neighbour_lt, point_lt}
 use Rattle.ojp_timetable.proofs.ListFacts.{each_fails, each_insert, each_map, rises_with}
 
 less : (o : Ordering) → is_lt o ≡ true → o ≡ Less
@@ -48,7 +48,7 @@ points_rise point points new rises =
 -- ---- a neighbour more
 
 point_keeps : (region : Text) (point : Point) (neighbour : Neighbour) → neighbour.code ≢ region → list_any (λ (other : Neighbour). same neighbour.code other.code) point.neighbours ≡ false
-    → IsWellPoint region point → IsWellPoint region (point_with point neighbour)
+    → IsPointOf region point → IsPointOf region (point_with point neighbour)
 point_keeps region point neighbour other new w =
     let fails = each_fails (λ (one : Neighbour). same neighbour.code one.code) point.neighbours new in
     record {
@@ -61,39 +61,40 @@ point_keeps region point neighbour other new w =
       others = each_insert (λ (one : Neighbour). one.code ≢ region) point.neighbours _ neighbour other w.others;
     }
 
-abbrev neighbours_of : Option Point → List Neighbour
+abbrev pub neighbours_of : Option Point → List Neighbour
 neighbours_of found = unwrap_or (option_map (λ (point : Point). point.neighbours) found) []
 
+-- what holds of a point still does with the neighbour, where Q holds of the neighbours that it had
+abbrev pub Gains : (Point → Type 0) → (List Neighbour → Type 0) → Neighbour → Type 0
+Gains P Q neighbour = (point : Point) → Q point.neighbours → P point → P (point_with point neighbour)
+
 -- the first point of that reference is the one that gets the neighbour
-points_step : (region stop : Text) (neighbour : Neighbour) (point : Point) (points : List Point) (found : Option Point) (b : Bool) → neighbour.code ≢ region
-    → list_any (λ (other : Neighbour). same neighbour.code other.code) (neighbours_of (cond b (Some point) found)) ≡ false
-    → IsWellPoint region point → Each (IsWellPoint region) points
-    → (list_any (λ (other : Neighbour). same neighbour.code other.code) (neighbours_of found) ≡ false → Each (IsWellPoint region) (points_with points stop neighbour))
-    → Each (IsWellPoint region) (cond b (point_with point neighbour ∷ points) (point ∷ points_with points stop neighbour))
-points_step region stop neighbour point points found true other new w each next = (point_keeps region point neighbour other new w, each)
-points_step region stop neighbour point points found false other new w each next = (w, next new)
+gain_step : (P : Point → Type 0) (Q : List Neighbour → Type 0) (stop : Text) (neighbour : Neighbour) → Gains P Q neighbour → (point : Point) (points : List Point) (found : Option Point) (b : Bool)
+    → Q (neighbours_of (cond b (Some point) found)) → P point → Each P points → (Q (neighbours_of found) → Each P (points_with points stop neighbour))
+    → Each P (cond b (point_with point neighbour ∷ points) (point ∷ points_with points stop neighbour))
+gain_step P Q stop neighbour gains point points found true q p each next = (gains point q p, each)
+gain_step P Q stop neighbour gains point points found false q p each next = (p, next q)
+
+pub each_gains : (P : Point → Type 0) (Q : List Neighbour → Type 0) (stop : Text) (neighbour : Neighbour) (points : List Point) → Gains P Q neighbour
+    → Q (neighbours_of (find (λ (point : Point). same stop point.stop) points)) → Each P points → Each P (points_with points stop neighbour)
+each_gains P Q stop neighbour [] gains q each = tt
+each_gains P Q stop neighbour (point ∷ points) gains q each =
+    gain_step P Q stop neighbour gains point points (find (λ (p : Point). same stop p.stop) points) (same stop point.stop) q each.0 each.1
+    (λ r. each_gains P Q stop neighbour points gains r each.1)
 
 pub points_keep : (region stop : Text) (neighbour : Neighbour) (points : List Point) → neighbour.code ≢ region
     → list_any (λ (other : Neighbour). same neighbour.code other.code) (neighbours_of (find (λ (point : Point). same stop point.stop) points)) ≡ false
-    → Each (IsWellPoint region) points → Each (IsWellPoint region) (points_with points stop neighbour)
-points_keep region stop neighbour [] other new each = tt
-points_keep region stop neighbour (point ∷ points) other new each =
-    points_step region stop neighbour point points (find (λ (p : Point). same stop p.stop) points) (same stop point.stop) other new each.0 each.1
-    (λ h. points_keep region stop neighbour points other h each.1)
+    → Each (IsPointOf region) points → Each (IsPointOf region) (points_with points stop neighbour)
+points_keep region stop neighbour points other new each =
+    each_gains (IsPointOf region) (λ neighbours. list_any (λ (one : Neighbour). same neighbour.code one.code) neighbours ≡ false) stop neighbour points
+    (λ point h w. point_keeps region point neighbour other h w) new each
 
 -- what holds of points whatever their neighbours are
 abbrev pub IsOfStops : (Point → Type 0) → Type 0
 IsOfStops P = (point : Point) (neighbour : Neighbour) → P point → P (point_with point neighbour)
 
-each_step : (P : Point → Type 0) → IsOfStops P → (stop : Text) (neighbour : Neighbour) (point : Point) (points : List Point) (b : Bool) → P point → Each P points
-    → Each P (points_with points stop neighbour) → Each P (cond b (point_with point neighbour ∷ points) (point ∷ points_with points stop neighbour))
-each_step P f stop neighbour point points true p each next = (f point neighbour p, each)
-each_step P f stop neighbour point points false p each next = (p, next)
-
 pub each_with : (P : Point → Type 0) → IsOfStops P → (stop : Text) (neighbour : Neighbour) (points : List Point) → Each P points → Each P (points_with points stop neighbour)
-each_with P f stop neighbour [] each = tt
-each_with P f stop neighbour (point ∷ points) each =
-    each_step P f stop neighbour point points (same stop point.stop) each.0 each.1 (each_with P f stop neighbour points each.1)
+each_with P f stop neighbour points each = each_gains P (λ neighbours. Unit {0}) stop neighbour points (λ point q p. f point neighbour p) tt each
 
 rise_step : (stop : Text) (neighbour : Neighbour) (point : Point) (points : List Point) (b : Bool) → Each (λ (y : Point). point_lt point y ≡ true) points
     → Each (λ (y : Point). point_lt point y ≡ true) (points_with points stop neighbour) → IsRising point_lt points → IsRising point_lt (points_with points stop neighbour)

@@ -1,10 +1,11 @@
 -- Lines that say something keep the exchange points well.
-use Rattle.std.proofs.Common.{◌≡◌, ◌≢◌, ℕ, ◌<◌, ◌≤◌, Bool, true, false, not, ◌&&◌, ◌||◌, ◌==◌, cond, List, [], ◌∷◌, ◌++◌, refl, sym, ◌∙◌, ap, subst, arith, true≢false, fold}
+use Rattle.std.proofs.Common.{◌≡◌, ◌≢◌, ℕ, ◌<◌, ◌≤◌, Bool, true, false, not, ◌&&◌, ◌||◌, ◌==◌, cond, nat_le, length, List, [], ◌∷◌, ◌++◌, refl, sym, ◌∙◌, ap, subst, arith, true≢false, fold}
 use Rattle.std.specs.Prelude.{Option, Some, None, Ok, Err, codes}
 use Rattle.std.specs.List.{list_any}
 use Rattle.std.proofs.lemmas.Bool.Decides.{nat_tests}
+use Rattle.ojp_values.specs.Limits.{IsChange, IsWellPoint}
 use Rattle.ojp_values.specs.Lists.{Among, Each}
-use Rattle.ojp_values.specs.Texts.{Text, same, is_code, is_exchange, is_label, is_stop_ref}
+use Rattle.ojp_values.specs.Texts.{Text, same, is_code, is_exchange, is_label, is_name, is_stop_ref}
 use Rattle.ojp_values.specs.declared.trips.Point.{Point}
 use Rattle.ojp_values.specs.declared.trips.Neighbour.{Neighbour}
 use Rattle.ojp_zones.specs.Days.{day_of}
@@ -13,10 +14,10 @@ use Rattle.ojp_zones.specs.Zones.{zone_of}
 use Rattle.ojp_zones.specs.declared.zone.Zone.{Zone}
 use Rattle.ojp_timetable.specs.Tables.{Place}
 use Rattle.ojp_timetable.specs.Contents.{has_place, neighbours_at, point_at, points_with, with_point}
-use Rattle.ojp_timetable.specs.Fields.{body, fields_of}
+use Rattle.ojp_timetable.specs.Fields.{body, fields_of, joined}
 use Rattle.ojp_timetable.specs.Lines.{Above, after_line, grown, new_point, no_lines}
-use Rattle.ojp_timetable.specs.Points.{AreWellPoints, IsWellPoint}
-use Rattle.ojp_timetable.specs.Said.{Said, call_fields, entry_fields, entry_said, formed, header_said, journey_fields, may_call, neighbour_fields, place_fields, region_said, said, service_days, service_fields, valued, word_fields, word_of, zone_said, zoned, is_closed, call_said}
+use Rattle.ojp_timetable.specs.Points.{AreWellPoints, IsPointOf}
+use Rattle.ojp_timetable.specs.Said.{Said, call_fields, entry_fields, entry_said, formed, header_said, journey_fields, may_call, is_place, neighbour_fields, place_fields, region_said, said, service_days, service_fields, valued, word_fields, word_of, zone_said, zoned, is_closed, call_said}
 use Rattle.ojp_timetable.specs.Checks.{checked, first_failing, has_neighbour, is_doubled, is_foreign, is_long, is_falling, is_full, lacks_service, lacks_stop, read_line, verdict}
 use Rattle.ojp_timetable.specs.TableText.{above_of, with_line, with_said}
 use Rattle.ojp_timetable.specs.declared.lines.Line.{Line}
@@ -26,18 +27,19 @@ use Rattle.ojp_timetable.specs.declared.lines.TableReason.{TableReason}
 use Rattle.ojp_timetable.specs.declared.lines.TableReason.TheVariants.{DoubledName, ForeignStop, LineForm, UnknownStop, UnknownService, FallingTimes, Limit, Value}
 use Rattle.ojp_timetable.specs.declared.words.Word.{Word}
 use Rattle.ojp_timetable.specs.declared.words.Word.TheVariants as words
-use Rattle.ojp_timetable.proofs.AmongFacts.{among_last, among_left, any_false}
+use Rattle.ojp_timetable.proofs.AmongFacts.{among_last, among_left, any_false, or_false}
 use Rattle.ojp_timetable.proofs.ListFacts.{each_insert, each_map}
+use Rattle.ojp_timetable.proofs.PointLimits.{length-points_with, length-with_point, lt_told, new_bounded, number_between, points_bounded}
 use Rattle.ojp_timetable.proofs.PointOrder.{each_with, points_keep, points_rise, rise_with}
 use Rattle.ojp_timetable.proofs.TextFacts.{differ_is}
 
 -- ---- what a line says by its form
 
--- the region is named in line 2, places stand below it, and a neighbour is another region
+-- the region is named in line 2, places stand below it, a neighbour is another region, and a change takes 1 to 7,200 seconds
 abbrev Suits : ℕ → Text → Line → Type 0
 Suits above region (lines.Region code) = above < 2
-Suits above region (lines.Place stop change name) = 2 ≤ above
-Suits above region (lines.Neighbour stop neighbour) = neighbour.code ≢ region
+Suits above region (lines.Place stop change name) = (2 ≤ above) × IsChange change
+Suits above region (lines.Neighbour stop neighbour) = (neighbour.code ≢ region) × IsChange neighbour.change
 Suits above region _ = Unit {0}
 
 abbrev SaidSuits : ℕ → Text → Said → Type 0
@@ -56,14 +58,22 @@ formed_suits : (above : ℕ) (region : Text) (b : Bool) (x : Said) → SaidSuits
 formed_suits above region true x h = h
 formed_suits above region false x h = tt
 
+middle : (a b c : Bool) → a && b && c ≡ true → b ≡ true
+middle true true c h = refl
+middle true false c h = absurd (true≢false (sym h))
+middle false b c h = absurd (true≢false (sym h))
+
 place_suits : (above : ℕ) (region : Text) → 2 ≤ above → (shared : Bool) (fields : List Text) → SaidSuits above region (place_fields shared fields)
 place_suits above region h shared [] = tt
 place_suits above region h shared (stop ∷ []) = tt
 place_suits above region h shared (stop ∷ change ∷ []) = tt
-place_suits above region h shared (stop ∷ change ∷ n ∷ ame) = valued_suits above region _ _ (λ e. h)
+place_suits above region h shared (stop ∷ change ∷ n ∷ ame) =
+    valued_suits above region _ _
+    (λ e. (h, number_between 1 7200 change (middle (is_place shared stop) (is_number 1 7200 change) (is_name (joined (n ∷ ame))) e)))
 
-another : (a b c d : Bool) → a && b && not c && d ≡ true → c ≡ false
-another true true false d h = refl
+another : (a b c d : Bool) → a && b && not c && d ≡ true → (c ≡ false) × (d ≡ true)
+another true true false true h = (refl, refl)
+another true true false false h = absurd (true≢false (sym h))
 another true true true d h = absurd (true≢false (sym h))
 another true false c d h = absurd (true≢false (sym h))
 another false b c d h = absurd (true≢false (sym h))
@@ -73,7 +83,9 @@ neighbour_suits above region [] = tt
 neighbour_suits above region (stop ∷ []) = tt
 neighbour_suits above region (stop ∷ code ∷ []) = tt
 neighbour_suits above region (stop ∷ code ∷ change ∷ []) =
-    valued_suits above region _ _ (λ e. differ_is code region (another (is_stop_ref stop) (is_code code) (same code region) (is_number 1 7200 change) e))
+    valued_suits above region _ _
+    (λ e. let told = another (is_stop_ref stop) (is_code code) (same code region) (is_number 1 7200 change) e in
+    (differ_is code region told.0, number_between 1 7200 change told.1))
 neighbour_suits above region (stop ∷ code ∷ change ∷ more ∷ fields) = tt
 
 days_suit : (above : ℕ) (region id : Text) (first last : Option ℕ) (marks : Text) → SaidSuits above region (service_days id first last marks)
@@ -163,17 +175,26 @@ said_suits above region left text =
 record Takes (above : Above) (line : Line) : Type 0 where
   suits : Suits above.lines above.contents.region line
   new : is_doubled above.contents line ≡ false
+  room : is_full above.contents line ≡ false
 
 abbrev SaidTakes : Above → Said → Type 0
 SaidTakes above (Ok line) = Takes above line
 SaidTakes above (Err reason) = Unit {0}
 
-verdict_takes : (above : Above) (line : Line) (foreign doubled : Bool) (rest : Option TableReason) → is_doubled above.contents line ≡ doubled → Suits above.lines above.contents.region line
-    → SaidTakes above (verdict line (cond foreign (Some ForeignStop) (cond doubled (Some DoubledName) rest)))
-verdict_takes above line true doubled rest e suits = tt
-verdict_takes above line false true rest e suits = tt
-verdict_takes above line false false None e suits = record { suits = suits; new = e }
-verdict_takes above line false false (Some reason) e suits = tt
+-- where no check fails, the last two do not
+has_room : (stop service falls full long : Bool) → first_failing ((stop, UnknownStop) ∷ (service, UnknownService) ∷ (falls, FallingTimes) ∷ (full || long, Limit) ∷ []) ≡ None → full ≡ false
+has_room false false false false long h = refl
+has_room false false false true long h = absurd (cc)
+has_room false false true full long h = absurd (cc)
+has_room false true falls full long h = absurd (cc)
+has_room true service falls full long h = absurd (cc)
+
+verdict_takes : (above : Above) (line : Line) (foreign doubled : Bool) (rest : Option TableReason) → is_doubled above.contents line ≡ doubled → (rest ≡ None → is_full above.contents line ≡ false)
+    → Suits above.lines above.contents.region line → SaidTakes above (verdict line (cond foreign (Some ForeignStop) (cond doubled (Some DoubledName) rest)))
+verdict_takes above line true doubled rest e room suits = tt
+verdict_takes above line false true rest e room suits = tt
+verdict_takes above line false false None e room suits = record { suits = suits; new = e; room = room refl }
+verdict_takes above line false false (Some reason) e room suits = tt
 
 checked_takes : (above : Above) (text : Text) (said : Said) → SaidSuits above.lines above.contents.region said → SaidTakes above (checked above text said)
 checked_takes above text (Err reason) h = tt
@@ -185,7 +206,7 @@ checked_takes above text (Ok line) h =
     ∷ (is_falling above.left line, FallingTimes)
     ∷ (is_full above.contents line || is_long above text, Limit)
     ∷ []))
-    refl h
+    refl (has_room (lacks_stop above.contents line) (lacks_service above.contents line) (is_falling above.left line) (is_full above.contents line) (is_long above text)) h
 
 line_takes : (above : Above) (text : Text) → SaidTakes above (read_line above text)
 unfolding read_line
@@ -203,7 +224,7 @@ record KeepsPoints (above : Above) : Type 0 where
   fresh : above.lines < 2 → above.contents.points ≡ []
 
 no_points : (region : Text) (points : List Point) → points ≡ [] → AreWellPoints region points
-no_points region points e = subst (AreWellPoints region) (sym e) (record { each = tt; rising = tt })
+no_points region points e = subst (AreWellPoints region) (sym e) (record { few = omega arith; each = tt; bounded = tt; rising = tt })
 
 still_listed : (places more : List Place) (points : List Point) → Each (IsListed places) points → Each (IsListed (places ++ more)) points
 still_listed places more points h = each_map (IsListed places) (IsListed (places ++ more)) (λ point l. (l.0, among_left l.0 places more l.1, l.2)) points h
@@ -214,40 +235,48 @@ new_stop places stop points new h =
     each_map (IsListed places) (λ (point : Point). same stop point.stop ≡ false)
     (λ point l. ap (same stop) (sym l.2) ∙ any_false (λ (place : Place). same stop place.stop) l.0 places new l.1) points h
 
-place_points : (region stop : Text) (change : ℕ) (points : List Point) (b : Bool) → is_exchange stop ≡ b → Each (λ (point : Point). same stop point.stop ≡ false) points → AreWellPoints region points
-    → AreWellPoints region (cond b (with_point points (new_point region stop change)) points)
-place_points region stop change points true e new w = record {
-  each = each_insert (IsWellPoint region) points _ (new_point region stop change) (record { of_region = refl; exchange = e; rising = tt; others = tt }) w.each;
+place_points : (region stop : Text) (change : ℕ) (points : List Point) (b : Bool) → is_exchange stop ≡ b → IsChange change → b && nat_le 255 (length points) ≡ false
+    → Each (λ (point : Point). same stop point.stop ≡ false) points → AreWellPoints region points → AreWellPoints region (cond b (with_point points (new_point region stop change)) points)
+place_points region stop change points true e lasts room new w = record {
+  few =
+      let below = lt_told 255 (length points) room in
+      omega (arith, below, length-with_point points (new_point region stop change));
+  each = each_insert (IsPointOf region) points _ (new_point region stop change) (record { of_region = refl; exchange = e; rising = tt; others = tt }) w.each;
+  bounded = each_insert IsWellPoint points _ (new_point region stop change) (new_bounded region stop change lasts) w.bounded;
   rising = points_rise (new_point region stop change) points new w.rising;
 }
-place_points region stop change points false e new w = w
+place_points region stop change points false e lasts room new w = w
 
 place_listed : (places : List Place) (points : List Point) (added : Point) (b : Bool) → IsListed places added → Each (IsListed places) points → Each (IsListed places) (cond b (with_point points added) points)
 place_listed places points added true is h = each_insert (IsListed places) points _ added is h
 place_listed places points added false is h = h
 
 place_keeps : (above : Above) (text stop : Text) (change : ℕ) (name : Text) → KeepsPoints above → Takes above (lines.Place stop change name) → KeepsPoints (after_line above text (lines.Place stop change name))
-unfolding is_doubled has_place
+unfolding is_doubled has_place is_full
 place_keeps above text stop change name k t =
     let place : Place = record { stop = stop; change = change; name = name } in
     let contents = above.contents in
     record {
-      points = place_points contents.region stop change contents.points (is_exchange stop) refl (new_stop contents.places stop contents.points t.new k.listed) k.points;
+      points = place_points contents.region stop change contents.points (is_exchange stop) refl t.suits.1
+          (or_false (nat_le 5000 (length contents.places)) (is_exchange stop && nat_le 255 (length contents.points)) t.room).1
+          (new_stop contents.places stop contents.points t.new k.listed) k.points;
       listed = place_listed (contents.places ++ place ∷ []) contents.points (new_point contents.region stop change) (is_exchange stop) (place, among_last contents.places place, refl)
           (still_listed contents.places (place ∷ []) contents.points k.listed);
-      fresh = λ h. absurd (omega (arith, t.suits, h));
+      fresh = λ h. absurd (omega (arith, t.suits.0, h));
     }
 
 no_more : (points : List Point) (stop : Text) (neighbour : Neighbour) → points ≡ [] → points_with points stop neighbour ≡ []
 no_more points stop neighbour e = ap (λ (ps : List Point). points_with ps stop neighbour) e
 
 neighbour_keeps : (above : Above) (text stop : Text) (neighbour : Neighbour) → KeepsPoints above → Takes above (lines.Neighbour stop neighbour) → KeepsPoints (after_line above text (lines.Neighbour stop neighbour))
-unfolding is_doubled has_neighbour neighbours_at point_at
+unfolding is_doubled has_neighbour neighbours_at point_at is_full
 neighbour_keeps above text stop neighbour k t =
     let contents = above.contents in
     record {
       points = record {
-        each = points_keep contents.region stop neighbour contents.points t.suits t.new k.points.each;
+        few = omega (arith, k.points.few, length-points_with stop neighbour contents.points);
+        each = points_keep contents.region stop neighbour contents.points t.suits.0 t.new k.points.each;
+        bounded = points_bounded stop neighbour contents.points t.suits.1 (lt_told 31 _ t.room) k.points.bounded;
         rising = rise_with stop neighbour contents.points k.points.rising;
       };
       listed = each_with (IsListed contents.places) (λ point n l. l) stop neighbour contents.points k.listed;
@@ -288,4 +317,4 @@ lines_keep (line ∷ lines) above k = lines_keep lines (with_line above line) (s
 -- the points that all lines of a text declare
 pub points_of_lines : (lines : List Text) → AreWellPoints (above_of lines).contents.region (above_of lines).contents.points
 unfolding above_of
-points_of_lines lines = (lines_keep lines no_lines (record { points = record { each = tt; rising = tt }; listed = tt; fresh = λ h. refl })).points
+points_of_lines lines = (lines_keep lines no_lines (record { points = record { few = omega arith; each = tt; bounded = tt; rising = tt }; listed = tt; fresh = λ h. refl })).points

@@ -1,6 +1,7 @@
 -- Why a line, and why a text, is not taken.
 use Rattle.std.specs.Prelude.{◌≡◌, ℕ, Some}
 use Rattle.ojp_values.specs.Texts.{Text}
+use Rattle.ojp_timetable.specs.Lines.{Above, no_lines}
 use Rattle.ojp_timetable.specs.Said.{Said}
 use Rattle.ojp_timetable.specs.TableText.{IsRefused, reason_of}
 use Rattle.ojp_timetable.specs.declared.refusals.LineRefused.{LineRefused}
@@ -12,6 +13,11 @@ use Rattle.ojp_timetable.specs.declared.refusals.TableRefused.TheVariants.{At, N
 abbrev pub IsLineRefusal : Said → LineRefused → Type 0
 IsLineRefusal said (Reason reason) = reason_of said ≡ Some reason
 IsLineRefusal said LineNoMemory = Unit {0}
+
+-- a line that fails a check leaves the lines above as they were, and want of memory leaves none
+abbrev pub left_after : Above → LineRefused → Above
+left_after above (Reason reason) = above
+left_after above LineNoMemory = no_lines
 
 -- the line is the first that fails a check and the reason the first that it fails; want of memory may come at any text
 abbrev pub IsRefusal : Text → TableRefused → Type 0

@@ -21,6 +21,7 @@ TextIsNotRefused =
 abbrev pub TableIsOne : Type 0
 TableIsOne = (bytes : Text) (table other : Timetable) → IsText bytes table → IsText bytes other → table ≡ other
 
--- the exchange points that a text declares are those of its region, and rise by reference, each with rising neighbours
+-- the exchange points that a text declares are those of its region, and rise by reference, each with rising neighbours,
+-- no more than a timetable may have, and with change times in range
 abbrev pub PointsAreWell : Type 0
 PointsAreWell = (bytes : Text) (table : Timetable) → IsText bytes table → AreWellPoints table.region table.points

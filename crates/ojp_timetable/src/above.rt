@@ -39,7 +39,7 @@ impl Above {
     ghost use Rattle.ojp_timetable.specs.WellContents.{IsCall, IsOpen, IsWellAbove, IsWellContents, Passes};
     ghost use Rattle.ojp_timetable.specs.Checks.{is_cut, is_long, read_line};
     ghost use Rattle.ojp_timetable.specs.TableText.{reason_of, with_line};
-    ghost use Rattle.ojp_timetable.specs.Refusals.{IsLineRefusal};
+    ghost use Rattle.ojp_timetable.specs.Refusals.{IsLineRefusal, left_after};
 
     /// No lines; takes no memory.
     pub fn new(alloc: Global) -> Above
@@ -92,12 +92,14 @@ impl Above {
         }
     }
 
-    /// Takes the line. Where there is no memory for it, all lines are forgotten.
+    /// Takes the line. A line that fails a check leaves all as it was; where there is no memory for a
+    /// line, all lines are forgotten.
     pub fn take(&mut self, alloc: Global, text: &[u8]) -> Result<(), LineRefused>
         requires { self.old.lines + 1 < 2 ^ 64 }
         ensures taken { OnOk result (self.new ≡ with_line self.old text.now) }
         ensures passed { OnOk result (reason_of (read_line self.old text.now) ≡ None) }
         ensures refused { IfErr result (IsLineRefusal (read_line self.old text.now)) }
+        ensures left { IfErr result (λ refused. self.new ≡ left_after self.old refused) }
     {
         let line = match self.read_line(text) {
             Ok(line) => line,

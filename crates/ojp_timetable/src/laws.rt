@@ -46,8 +46,9 @@ pub fn table_is_one()
     ensures { TableIsOne }
 {}
 
-/// The exchange points that a text declares are those of its region and rise by reference, and the
-/// neighbours of each rise by code, none being the region itself.
+/// The exchange points that a text declares are those of its region, at most 255, and rise by
+/// reference; the neighbours of each are at most 31 and rise by code, none being the region itself;
+/// and each change time is from 1 to 7,200 seconds.
 pub fn points_are_well()
     ensures { PointsAreWell }
 {}

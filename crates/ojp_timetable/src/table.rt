@@ -57,7 +57,8 @@ impl Timetable {
     }
 
     /// The timetable is well: its times do not fall, its stops, services and noons are in range, and
-    /// its exchange points rise by reference, the neighbours of each by code.
+    /// its exchange points rise by reference, the neighbours of each by code, with no more of them and
+    /// no longer change times than a timetable may have.
     pub fn is_well(&self)
         ensures { IsWell self.now }
     {
