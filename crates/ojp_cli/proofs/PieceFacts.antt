@@ -1,5 +1,5 @@
 -- How far the reading of a document has come.
-use Rattle.std.proofs.Common.{◌≡◌, ◌≢◌, ℕ, zero, suc, ◌+◌, ◌-◌, ◌^◌, ◌<◌, ◌≤◌, min, List, [], ◌∷◌, ◌++◌, length, take, drop, Option, Some, None, IfSome, Result, Ok, Err, IfOk, IfErr, refl, sym, ap, ◌∙◌, subst, arith, append_assoc, append-nil, length-append, take-append-drop}
+use Rattle.std.proofs.Common.{◌≡◌, ◌≢◌, ℕ, zero, suc, ◌+◌, ◌-◌, ◌<◌, ◌≤◌, [], ◌∷◌, ◌++◌, length, take, drop, Option, Some, None, Result, Ok, Err, IfOk, IfErr, refl, sym, ap, ◌∙◌, subst, arith, append_assoc, append-nil, length-append, take-append-drop}
 use Rattle.std.specs.Prelude.{Bool, true, false, ◌||◌, ◌&&◌, ◌==◌, nat_lt, IsTrue}
 use Rattle.std.specs.Io.KnownBytes.{Consumes, IsAtEnd, Keeps}
 use Rattle.std.proofs.KnownBytes.{Consumes-nil, Consumes-trans, Consumes-kept, Consumes-whole}
@@ -7,13 +7,10 @@ use Rattle.ojp_values.specs.Texts.{Text}
 use Rattle.ojp_values.specs.declared.documents.Doc.{Doc}
 use Rattle.ojp_outside.specs.Causes.{Rose}
 use Rattle.ojp_outside.specs.Known.{LosesPrefix}
-use Rattle.ojp_grammar.specs.Documents.{IsWanted, Spells}
 use Rattle.ojp_grammar.specs.Places.{IsRefused}
 use Rattle.ojp_grammar.specs.declared.refusals.Want.{Want}
-use Rattle.ojp_grammar.specs.declared.refusals.Reason.{Reason}
-use Rattle.ojp_grammar.specs.declared.refusals.Refused.{Refused}
 use Rattle.ojp_decode.specs.Progress.{Progress, bytes_of, reading, whole, over, spent}
-use Rattle.ojp_decode.specs.Feeding.{FeedsOn, FeedsBehind, StaysRefused, IsCut, IsRead, trailing}
+use Rattle.ojp_decode.specs.Feeding.{FeedsOn, FeedsBehind, StaysRefused, trailing}
 use Rattle.ojp_decode.specs.declared.fed.Fed.{Fed}
 use Rattle.ojp_decode.specs.declared.fed.Fed.TheVariants as feds
 use Rattle.ojp_decode.specs.declared.fed.ReadRefused.{ReadRefused}
@@ -192,9 +189,6 @@ module _ (want : Want) (old mid now : Option Text) (before count later : ℕ) (s
       → IfOk result (λ doc. IsDocumentOf want old now ended doc) × IfErr result (λ stop. ReadStops want old before later stop)
   ends_all ended (Ok doc) seen f = (ends_read ended doc seen f, tt)
   ends_all ended (Err stop) seen f = (tt, ends_refused stop f)
-
-  pub ends_taken : LosesPrefix old now
-  ends_taken = (h.fed, all_taken)
 
 pub kept_lost : (want : Want) (old mid now : Option Text) (before count : ℕ) (s : Progress) → HasFed want old mid before count s → Keeps mid now → LosesPrefix old now
 kept_lost want old mid now before count s h k = (h.fed, Consumes-kept old mid now h.fed h.taken k)

@@ -1,5 +1,5 @@
 -- Why a command stops: its status and its text on standard error.
-use Rattle.std.specs.Prelude.{◌≢◌, ℕ, List, [], ◌∷◌, ◌++◌, codes, Option}
+use Rattle.std.specs.Prelude.{◌≢◌, ℕ, [], ◌∷◌, ◌++◌, codes, Option}
 use Rattle.std.specs.Fmt.{decimal}
 use Rattle.std.specs.Io.KnownBytes.{Appends, Keeps}
 use Rattle.ojp_values.specs.Texts.{Text}

@@ -4,7 +4,7 @@ use Rattle.ojp_decode.specs.Progress.{bytes_of}
 use Rattle.std.specs.Io.KnownBytes.{Consumes}
 use Rattle.ojp_cli.specs.Inputs.{ReadStops}
 use Rattle.ojp_cli.specs.declared.stops.Stop.{Stop}
-use Rattle.ojp_cli.proofs.PieceFacts.{HasFed-start, HasFed-more, took_is_open, sees_end, ends_all, ends_taken, stops_early, has_lost, kept_lost, fed_grows, rose_later}
+use Rattle.ojp_cli.proofs.PieceFacts.{HasFed-start, HasFed-more, took_is_open, sees_end, ends_all, stops_early, has_lost, kept_lost, fed_grows, rose_later}
 use Rattle.ojp_cli.proofs.documents.read_document.Goals as goal
 
 pub reading-init : goal.reading-init
