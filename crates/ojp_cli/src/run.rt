@@ -30,9 +30,10 @@ use std::alloc::Global;
 
 /// Runs the command of the words, and gives the exit status. It waits for nobody.
 ///
-/// `plan FILE` reads a timetable file and one request document, to the end of the input, and writes the
-/// delivery document that answers it: a trip by that timetable, and for another request that it is not served.
-/// `check` reads one document and writes the name of its request or delivery element, as a line.
+/// `plan FILE` reads a timetable file and one request document, and writes the delivery document that answers
+/// it: a trip by that timetable, and for another request that it is not served. `check` reads one document and
+/// writes the name of its request or delivery element, as a line. Both read the input to its end, or to the
+/// first bytes that refuse the document whatever follows.
 pub fn run_here<I: Source, O: Sink, E: Sink, F: Store>(
     alloc: Global,
     words: &[String],
