@@ -181,3 +181,14 @@ escaped_plain (b ∷ xs) =
 -- where the first byte is spelled as itself, less is left
 pub plain_rest : (b : ℕ) (xs : List ℕ) → is_escaped_byte b ≡ false → 1 ≤ position_or_len is_escaped_byte (b ∷ xs)
 plain_rest b xs e = rw e (omega arith)
+
+-- a text in which no byte is escaped is spelled as itself
+pub spelled_plain : (text : List ℕ) (len count : ℕ) → len ≡ position_or_len is_escaped_byte text → len ≡ count → count ≡ length text → escaped text ++ [] ≡ text
+spelled_plain text len count plain all size =
+    append-nil (escaped text)
+    ∙ (escaped_plain text
+    ∙ (ap (λ n. take n text ++ escaped (drop n text)) (sym plain ∙ (all ∙ size)) ∙ whole text))
+  where
+    whole : (text : List ℕ) → take (length text) text ++ escaped (drop (length text) text) ≡ text
+    whole [] = refl
+    whole (b ∷ xs) = ap (λ l. b ∷ l) (whole xs)

@@ -7,3 +7,4 @@ pub mod Calendar
 pub mod FieldTexts
 pub mod StopParts
 pub mod CharacterBytes
+pub mod ListFacts

@@ -14,6 +14,10 @@ impl Name {
     pub fn read_escaped(text: &[u8]) -> Option<Name>
         ensures { Reads (λ name. IsTrue (is_name name)) escaped text.now result }
     {
+        // Most names spell themselves.
+        if plain_len(text) == text.len() {
+            return Name::from_bytes(text);
+        }
         let mut name: ArrayVec<u8, 100> = ArrayVec::new();
         let mut rest = text;
         'bytes: while !rest.is_empty() {

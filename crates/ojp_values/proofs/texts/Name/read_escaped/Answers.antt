@@ -1,6 +1,6 @@
-use Rattle.std.proofs.Common.{sym, refl, arith}
+use Rattle.std.proofs.Common.{[], length, sym, refl, arith}
 use Rattle.std.proofs.lemmas.Bool.{eqb-true}
-use Rattle.ojp_values.proofs.Escapes.{escaped_push, first_byte_shorter, no_room, no_byte, read_all}
+use Rattle.ojp_values.proofs.Escapes.{escaped_push, first_byte_shorter, no_room, no_byte, read_all, spelled_plain}
 use Rattle.ojp_values.proofs.texts.Name.read_escaped.Goals as goal
 
 pub bytes-init : goal.bytes-init
@@ -28,5 +28,11 @@ bytes-preserved c =
 
 pub returns : goal.returns
 returns c =
-    read_all c.bytes.name.items c.bytes.rest.now c.args.text.now c.from_bytes.result c.bytes.invariant c.bytes-test.ensures
-    (rw (sym c.as_slice.ensures.value) c.from_bytes.ensures.exact) (rw (sym c.as_slice.ensures.value) c.from_bytes.ensures.value)
+    read_all c.bytes.name.items c.bytes.rest.now c.args.text.now c.from_bytes-2.result c.bytes.invariant c.bytes-test.ensures
+    (rw (sym c.as_slice.ensures.value) c.from_bytes-2.ensures.exact) (rw (sym c.as_slice.ensures.value) c.from_bytes-2.ensures.value)
+
+pub returns-then-plain_len-text : goal.returns-then-plain_len-text
+returns-then-plain_len-text c =
+    read_all c.args.text.now [] c.args.text.now c.from_bytes.result
+    (spelled_plain c.args.text.now c.plain_len.result (length c.args.text.now) c.plain_len.ensures.value c.if-plain_len-text.true refl)
+    refl c.from_bytes.ensures.exact c.from_bytes.ensures.value
