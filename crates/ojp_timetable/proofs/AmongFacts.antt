@@ -3,7 +3,7 @@ use Rattle.std.proofs.Common.{◌≡◌, ℕ, zero, suc, ◌+◌, ◌<◌, ◌�
 use Rattle.std.specs.Prelude.{Some, None, insert, position, unwrap_or}
 use Rattle.std.specs.List.{list_any, position_or_len}
 use Rattle.std.proofs.lemmas.Bool.Decides.{nat_tests}
-use Rattle.ojp_values.specs.Lists.{Among}
+use Rattle.ojp_values.specs.Lists.{Among, Each}
 
 pub or_false : (a b : Bool) → a || b ≡ false → (a ≡ false) × (b ≡ false)
 or_false true b h = absurd (true≢false h)
@@ -43,6 +43,20 @@ module _ {X : Type 0} where
   among_inserted [] (suc i) y = inl refl
   among_inserted (z ∷ xs) zero y = inl refl
   among_inserted (z ∷ xs) (suc i) y = inr (among_inserted xs i y)
+
+  -- an element of a list with one more in between is one of the list or the new one
+  pub among_insert_or : (x : X) (xs : List X) (i : ℕ) (y : X) → Among x (insert xs i y) → Among x xs ⊎ (x ≡ y)
+  among_insert_or x [] zero y h = elim h [ inl e ↦ inr e | inr t ↦ absurd t ]
+  among_insert_or x [] (suc i) y h = elim h [ inl e ↦ inr e | inr t ↦ absurd t ]
+  among_insert_or x (z ∷ xs) zero y h = elim h [ inl e ↦ inr e | inr t ↦ inl t ]
+  among_insert_or x (z ∷ xs) (suc i) y h = elim h [
+    | inl e ↦ inl (inl e)
+    | inr t ↦ elim (among_insert_or x xs i y t) [ inl u ↦ inl (inr u) | inr e ↦ inr e ]
+  ]
+
+  pub each_push : (P : X → Type 0) (xs : List X) (y : X) → Each P xs → P y → Each P (xs ++ y ∷ [])
+  each_push P [] y h p = (p, tt)
+  each_push P (x ∷ xs) y h p = (h.0, each_push P xs y h.1 p)
 
   -- no element passes where none does
   pub any_false : (p : X → Bool) (x : X) (xs : List X) → list_any p xs ≡ false → Among x xs → p x ≡ false

@@ -1,8 +1,8 @@
 -- The journeys that a row of calls makes, and how they grow.
-use Rattle.std.proofs.Common.{◌≡◌, ℕ, zero, suc, Bool, true, false, cond, ◌||◌, ◌+◌, ◌-◌, ◌≤◌, List, [], ◌∷◌, ◌++◌, length, take, drop, refl, sym, ◌∙◌, ap, arith, subst, true≢false, length-drop, length-take-le, slice_range}
-use Rattle.std.specs.List.{sum_by, list_any}
-use Rattle.std.specs.Prelude.{Option, Some, None, is_some, bytes_eq, unwrap_or, option_map, slice_get}
-use Rattle.std.specs.Map.{lookup}
+use Rattle.std.proofs.Common.{◌≡◌, ℕ, zero, suc, Bool, true, false, not, cond, nat_lt, ◌||◌, ◌+◌, ◌-◌, ◌≤◌, List, [], ◌∷◌, ◌++◌, length, take, drop, refl, sym, ◌∙◌, ap, arith, subst, true≢false, length-drop, length-take-le, slice_range}
+use Rattle.std.specs.List.{sum_by, list_any, prefix_len}
+use Rattle.std.specs.Prelude.{position, Option, Some, None, is_some, bytes_eq, unwrap_or, option_map, slice_get}
+use Rattle.std.specs.Map.{keys_of, lookup}
 use Rattle.std.proofs.lemmas.List.Sums.{sum_by-cons}
 use Rattle.std.proofs.lemmas.List.{drop-append-le, take-append-le, take_all}
 use Rattle.std.proofs.Math.Seq.{drop-length}
@@ -190,3 +190,23 @@ pub no_calls : (entries : List (Text × Head)) (calls : List Call) (i : ℕ) →
 unfolding calls_at
 no_calls entries calls i h at =
     ap (λ (o : Option Journey). unwrap_or (option_map (λ (journey : Journey). journey.calls) o) []) (no_journey entries calls i h at)
+
+-- the number of the first journey of that label is that of its entry
+module _ (test : Text → Bool) (id : Text) (agree : (t : Text) → test t ≡ bytes_eq id t) where
+  stop_case : (b c : Bool) (m n : ℕ) → b ≡ c → m ≡ n → cond (not b) (1 + m) 0 ≡ cond (not c) (1 + n) 0
+  stop_case b c m n e h = λ i. cond (not (e i)) (1 + h i) 0
+
+  prefix_row : (entries : List (Text × Head)) (calls : List Call)
+      → prefix_len (λ (t : Text). not (test t)) (keys_of entries) ≡ prefix_len (λ (j : Journey). not (bytes_eq id j.id)) (journeys_of entries calls)
+  prefix_row [] calls = refl
+  prefix_row (e ∷ []) calls = stop_case (test e.0) (bytes_eq id e.0) 0 0 (agree e.0) refl
+  prefix_row (e ∷ next ∷ more) calls = stop_case (test e.0) (bytes_eq id e.0) _ _ (agree e.0) (prefix_row (next ∷ more) calls)
+
+  length_row : (entries : List (Text × Head)) (calls : List Call) → length (keys_of entries) ≡ length (journeys_of entries calls)
+  length_row [] calls = refl
+  length_row (e ∷ []) calls = refl
+  length_row (e ∷ next ∷ more) calls = ap suc (length_row (next ∷ more) calls)
+
+  pub position_row : (entries : List (Text × Head)) (calls : List Call)
+      → position test (keys_of entries) ≡ position (λ (j : Journey). bytes_eq id j.id) (journeys_of entries calls)
+  position_row entries calls = λ i. cond (nat_lt (prefix_row entries calls i) (length_row entries calls i)) (Some (prefix_row entries calls i)) None

@@ -1,11 +1,13 @@
 pub mod TextFacts
 pub mod RideFacts
-pub mod RowFacts
+pub mod FormFacts
+pub mod Parts
 pub mod LegCounts
 pub mod AnswerFacts
 pub mod FieldFacts
 pub mod MarkFacts
 pub mod MapFacts
+pub mod CallFacts
 pub mod CallRowFacts
 pub mod PointFacts
 pub mod LineFacts
@@ -18,3 +20,7 @@ pub mod PointLimits
 pub mod PointsKept
 pub mod RefusalFacts
 pub mod NoonOnce
+pub mod Orders
+pub mod ReadFacts
+pub mod ExampleFacts
+pub mod LegalFacts

@@ -1,12 +1,12 @@
 -- Rides go forward in time, end by the last moment, and call at stops of their region.
-use Rattle.std.proofs.Common.{◌≡◌, ℕ, suc, zero, ◌<◌, ◌≤◌, List, [], ◌∷◌, ◌++◌, Option, Some, None, refl, sym, ap, subst, inl, inr, arith}
+use Rattle.std.proofs.Common.{◌≡◌, ℕ, suc, zero, ◌<◌, ◌≤◌, List, [], ◌∷◌, Option, Some, None, sym, ◌∙◌, ap, subst, inl, inr, arith}
 use Rattle.std.specs.List.{slice_get}
 use Rattle.ojp_values.specs.Lists.{Among}
 use Rattle.ojp_values.specs.Texts.{Text}
 use Rattle.ojp_values.specs.declared.trips.Leg.{Leg}
 use Rattle.ojp_timetable.specs.Tables.{Timetable, Call}
 use Rattle.ojp_timetable.specs.Runs.{last_moment, moment, IsLeg, NotBefore, latest, NoneFalls, IsOffset, IsOfRegion, IsWellCall, IsWell}
-use Rattle.ojp_timetable.specs.Journeys.{Follows, GoesOn, Leads}
+use Rattle.ojp_timetable.specs.Journeys.{Standing, alighted, reached, AllFollow, HasTime, Follows, Leads}
 
 among_slice_get : {X : Type 0} (xs : List X) (i : ℕ) (x : X) → slice_get xs i ≡ Some x → Among x xs
 among_slice_get [] i x e = absurd (cc)
@@ -89,42 +89,50 @@ leg_boards table leg well ride =
     let stop : leg.board ≡ ride.board.stop = ap (λ (it : Leg). it.board) ride.is in
     subst (IsOfRegion table) (sym stop) call.of_region
 
-pub goes_forward : (table : Timetable) (last : Leg) (legs : List Leg) (d : Text) (a : ℕ) → IsWell table → GoesOn table last legs d a → last.arrives ≤ a
-goes_forward table last [] d a well goes = omega arith
-goes_forward table last (leg ∷ legs) d a well goes =
-    let later : leg.arrives ≤ a = goes_forward table leg legs d a well goes.2 in
-    let ride : leg.departs ≤ leg.arrives = leg_forward table leg well goes.0 in
-    let follows : Follows table last.alight last.arrives leg = goes.1 in
-    omega arith
+pub follow_forward : (table : Timetable) (at : Standing) (legs : List Leg) → IsWell table → AllFollow (Follows table) at legs → at.moment ≤ (reached at legs).moment
+follow_forward table at [] well follow = omega arith
+follow_forward table at (leg ∷ legs) well follow =
+    let later : leg.arrives ≤ (reached (alighted leg) legs).moment = follow_forward table (alighted leg) legs well follow.1 in
+    let ride : leg.departs ≤ leg.arrives = leg_forward table leg well follow.0.0 in
+    let time : HasTime table at leg = follow.0.2 in
+    omega (arith, time.2)
 
 pub leads_forward : (table : Timetable) (o : Text) (t : ℕ) (legs : List Leg) (d : Text) (a : ℕ) → IsWell table → Leads table o t legs d a → (t ≤ a) × (t ≤ last_moment)
 leads_forward table o t [] d a well leads = absurd leads
 leads_forward table o t (leg ∷ legs) d a well leads =
-    let later : leg.arrives ≤ a = goes_forward table leg legs d a well leads.3 in
+    let later : leg.arrives ≤ (reached (alighted leg) legs).moment = follow_forward table (alighted leg) legs well leads.3 in
     let ride : leg.departs ≤ leg.arrives = leg_forward table leg well leads.0 in
     let bound : leg.arrives ≤ last_moment = leg_bound table leg well leads.0 in
-    omega arith
+    let at : (reached (alighted leg) legs).moment ≡ a = leads.4.1 in
+    let leaves : t ≤ leg.departs = leads.2 in
+    (omega arith, omega arith)
 
-goes_to_stop : (table : Timetable) (last : Leg) (legs : List Leg) (d : Text) (a : ℕ) → IsWell table → IsLeg table last → GoesOn table last legs d a → IsOfRegion table d
-goes_to_stop table last [] d a well ride goes = subst (IsOfRegion table) goes.0 (leg_alights table last well ride)
-goes_to_stop table last (leg ∷ legs) d a well ride goes = goes_to_stop table leg legs d a well goes.0 goes.2
+-- where rides of the region lead is a stop of it
+reached_stop : (table : Timetable) (leg : Leg) (legs : List Leg) → IsWell table → IsLeg table leg → AllFollow (Follows table) (alighted leg) legs → IsOfRegion table (reached (alighted leg) legs).stop
+reached_stop table leg [] well ride follow = leg_alights table leg well ride
+reached_stop table leg (next ∷ legs) well ride follow = reached_stop table next legs well follow.0.0 follow.1
 
 pub leads_to_stop : (table : Timetable) (o : Text) (t : ℕ) (legs : List Leg) (d : Text) (a : ℕ) → IsWell table → Leads table o t legs d a → IsOfRegion table d
 leads_to_stop table o t [] d a well leads = absurd leads
-leads_to_stop table o t (leg ∷ legs) d a well leads = goes_to_stop table leg legs d a well leads.0 leads.3
+leads_to_stop table o t (leg ∷ legs) d a well leads = subst (IsOfRegion table) leads.4.0 (reached_stop table leg legs well leads.0 leads.3)
 
 -- waiting is always allowed
 pub leads_earlier : (table : Timetable) (o : Text) (s t : ℕ) (legs : List Leg) (d : Text) (a : ℕ) → s ≤ t → Leads table o t legs d a → Leads table o s legs d a
 leads_earlier table o s t [] d a h leads = absurd leads
-leads_earlier table o s t (leg ∷ legs) d a h leads = (leads.0, leads.1, omega arith, leads.3)
+leads_earlier table o s t (leg ∷ legs) d a h leads = (leads.0, leads.1, omega (arith, leads.2), leads.3, leads.4)
 
-goes_more : (table : Timetable) (last : Leg) (legs : List Leg) (d : Text) (a : ℕ) (leg : Leg) → IsLeg table leg → Follows table d a leg → GoesOn table last legs d a → GoesOn table last (legs ++ leg ∷ []) leg.alight leg.arrives
-goes_more table last [] d a leg ride follows goes =
-    let at : Follows table last.alight a leg = subst (λ (stop : Text). Follows table stop a leg) (sym goes.0) follows in
-    (ride, subst (λ (n : ℕ). Follows table last.alight n leg) (sym goes.1) at, (refl, refl))
-goes_more table last (next ∷ legs) d a leg ride follows goes = (goes.0, goes.1, goes_more table next legs d a leg ride follows goes.2)
+reached_region : (table : Timetable) (leg : Leg) (legs : List Leg) → IsLeg table leg → AllFollow (Follows table) (alighted leg) legs → (reached (alighted leg) legs).region ≡ table.region
+reached_region table leg [] ride follow = leg_region table leg ride
+reached_region table leg (next ∷ legs) ride follow = reached_region table next legs follow.0.0 follow.1
 
--- one more ride of the region may follow
-pub leads_more : (table : Timetable) (o : Text) (t : ℕ) (legs : List Leg) (d : Text) (a : ℕ) (leg : Leg) → IsLeg table leg → Follows table d a leg → Leads table o t legs d a → Leads table o t (legs ++ leg ∷ []) leg.alight leg.arrives
-leads_more table o t [] d a leg ride follows leads = absurd leads
-leads_more table o t (first ∷ legs) d a leg ride follows leads = (leads.0, leads.1, leads.2, goes_more table first legs d a leg ride follows leads.3)
+-- where one stands, by its parts
+pub stands : (at : Standing) (region stop : Text) (moment : ℕ) → at.region ≡ region → at.stop ≡ stop → at.moment ≡ moment → at ≡ record { region = region; stop = stop; moment = moment }
+stands at region stop moment r s m =
+    ap (λ (x : Text). record { region = x; stop = at.stop; moment = at.moment }) r
+    ∙ (ap (λ (x : Text). record { region = region; stop = x; moment = at.moment }) s ∙ ap (λ (x : ℕ). record { region = region; stop = stop; moment = x }) m)
+
+-- where the legs of a journey lead
+pub leads_reach : (table : Timetable) (o : Text) (t : ℕ) (legs : List Leg) (d : Text) (a : ℕ) (from : Standing) → Leads table o t legs d a → reached from legs ≡ record { region = table.region; stop = d; moment = a }
+leads_reach table o t [] d a from leads = absurd leads
+leads_reach table o t (leg ∷ legs) d a from leads =
+    stands (reached (alighted leg) legs) table.region d a (reached_region table leg legs leads.0 leads.3) leads.4.0 leads.4.1

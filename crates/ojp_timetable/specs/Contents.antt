@@ -1,11 +1,12 @@
 -- What the lines of a file declare.
 use Rattle.std.specs.Prelude.{ℕ, Bool, pos, List, [], ◌∷◌, Option, None, find, position, length, if◌then◌else◌, insert, ◌++◌, unwrap_or, option_map}
-use Rattle.std.specs.List.{list_any, sum_by}
+use Rattle.std.specs.List.{list_any}
 use Rattle.ojp_zones.specs.declared.zone.Zone.{Zone}
 use Rattle.ojp_values.specs.Texts.{Text, same, text_lt}
 use Rattle.ojp_values.specs.declared.trips.Point.{Point}
 use Rattle.ojp_values.specs.declared.trips.Neighbour.{Neighbour}
 use Rattle.ojp_timetable.specs.Tables.{Timetable, Place, Service, Journey, Call}
+use Rattle.ojp_timetable.specs.Runs.{calls_of}
 
 -- the points stand by rising reference, each with its neighbours by rising code; the others in the order of the file
 pub record Contents : Type 0 where
@@ -57,7 +58,7 @@ neighbours_at contents stop = unwrap_or (option_map (λ (point : Point). point.n
 
 -- how many calls all journeys have
 unfoldable pub calls_in : Contents → ℕ
-calls_in contents = sum_by (λ journey. length journey.calls) contents.journeys
+calls_in contents = calls_of contents.journeys
 
 -- the point in its place, before the first of a greater reference, or at the end
 abbrev pub with_point : List Point → Point → List Point

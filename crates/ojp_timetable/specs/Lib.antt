@@ -12,8 +12,10 @@ pub mod WellContents
 pub mod Points
 pub mod Runs
 pub mod Journeys
-pub mod Rows
+pub mod Stepwise
+pub mod Legal
 pub mod Answers
+pub mod GatewayAnswers
 pub mod Examples
 pub mod Bounds
 pub mod TextLaws

@@ -5,7 +5,7 @@ use Rattle.ojp_values.specs.declared.trips.Point.{Point}
 use Rattle.ojp_timetable.specs.Contents.{Contents, no_contents, service_number, with_point, points_with, with_call}
 use Rattle.ojp_timetable.specs.declared.lines.Line.{Line}
 use Rattle.ojp_timetable.specs.declared.lines.Line.TheVariants as lines
-use Rattle.ojp_timetable.specs.Runs.{IsOffset}
+use Rattle.ojp_timetable.specs.Runs.{AreDays, IsOffset}
 use Rattle.ojp_zones.specs.Noons.{IsZone}
 use Rattle.ojp_timetable.specs.declared.lines.Open.{Open}
 use Rattle.ojp_timetable.specs.declared.lines.Open.TheVariants.{Nothing, Begun, Since}
@@ -80,7 +80,7 @@ IsWellLine above (lines.Region code) = (above ≡ 1) × (0 < length code)
 IsWellLine above (lines.Zone zone) = (above ≡ 2) × IsZone zone
 IsWellLine above (lines.Place stop change name) = (3 ≤ above) × (1 ≤ change) × (change ≤ 7200)
 IsWellLine above (lines.Neighbour stop neighbour) = (3 ≤ above) × (1 ≤ neighbour.change) × (neighbour.change ≤ 7200)
-IsWellLine above (lines.Service id dates) = 3 ≤ above
+IsWellLine above (lines.Service id dates) = (3 ≤ above) × AreDays dates.first dates.last dates.marks
 IsWellLine above (lines.Journey id service line) = 3 ≤ above
 IsWellLine above (lines.Call call) = (3 ≤ above) × IsOffset call.arrives × IsOffset call.departs
 

@@ -1,7 +1,8 @@
 -- The runs of a timetable, their moments and their rides.
-use Rattle.std.specs.Prelude.{◌≡◌, ℕ, ◌+◌, ◌-◌, ◌*◌, ◌%◌, ◌<◌, ◌≤◌, true, List, [], ◌∷◌, ◌⊎◌, Option, Some, None, slice_get, slice_index, unwrap_or, length}
-use Rattle.ojp_values.specs.Lists.{Among}
-use Rattle.ojp_values.specs.Texts.{Text, home}
+use Rattle.std.specs.Prelude.{◌≡◌, ◌≢◌, ℕ, ◌+◌, ◌-◌, ◌*◌, ◌%◌, ◌<◌, ◌≤◌, Bool, true, List, [], ◌∷◌, ◌⊎◌, Option, Some, None, IsSome, slice_get, slice_index, unwrap_or, length}
+use Rattle.std.specs.List.{sum_by}
+use Rattle.ojp_values.specs.Lists.{Among, Each}
+use Rattle.ojp_values.specs.Texts.{Text, home, is_exchange}
 use Rattle.ojp_values.specs.declared.trips.Leg.{Leg}
 use Rattle.ojp_values.specs.declared.trips.Point.{Point}
 use Rattle.ojp_timetable.specs.Tables.{Timetable, Journey, Service, Call, Place, name_of}
@@ -84,6 +85,41 @@ NoneFalls t [] = Unit {0}
 NoneFalls t (call ∷ calls) =
     NotBefore t call.arrives × NotBefore (latest t call.arrives) call.departs × NoneFalls (latest (latest t call.arrives) call.departs) calls
 
+-- the calls behind the first: each arrives, and each departs but the last
+abbrev pub GoToEnd : List Call → Type 0
+GoToEnd [] = ⊥
+GoToEnd (call ∷ []) = IsSome call.arrives × (call.departs ≡ None)
+GoToEnd (call ∷ next ∷ more) = IsSome call.arrives × IsSome call.departs × GoToEnd (next ∷ more)
+
+-- at least two calls: the first departs and has no arrival, the last arrives and has no departure, each between has both
+abbrev pub AreWhole : List Call → Type 0
+AreWhole [] = ⊥
+AreWhole (call ∷ calls) = (call.arrives ≡ None) × IsSome call.departs × GoToEnd calls
+
+-- no two of the journeys have one label
+abbrev pub HaveOwnLabels : List Journey → Type 0
+HaveOwnLabels [] = Unit {0}
+HaveOwnLabels (journey ∷ more) = Each (λ (other : Journey). journey.id ≢ other.id) more × HaveOwnLabels more
+
+-- the first and the last day are operating days and do not fall, and there is a mark for each weekday
+abbrev pub AreDays : ℕ → ℕ → List Bool → Type 0
+AreDays first last marks = (2 ≤ first) × (first ≤ last) × (last ≤ 84002) × (length marks ≡ 7)
+
+-- the exchange point is at the place, with its change time
+abbrev pub IsAt : Point → Place → Type 0
+IsAt point place = (point.stop ≡ place.stop) × (point.change ≡ place.change)
+
+-- how many calls all journeys have
+abbrev pub calls_of : List Journey → ℕ
+calls_of journeys = sum_by (λ (journey : Journey). length journey.calls) journeys
+
+-- at most 5,000 stops with the exchange points, 1,000 services, 20,000 journeys and 100,000 calls
+pub record AreFew (places : List Place) (services : List Service) (journeys : List Journey) : Type 0 where
+  pub places_few : length places ≤ 5000
+  pub services_few : length services ≤ 1000
+  pub journeys_few : length journeys ≤ 20000
+  pub calls_few : calls_of journeys ≤ 100000
+
 -- the offset is at most that of a day and a half
 abbrev pub IsOffset : Option ℕ → Type 0
 IsOffset None = Unit {0}
@@ -105,11 +141,17 @@ pub record IsWellCall (table : Timetable) (call : Call) : Type 0 where
 -- what each timetable that was read keeps
 pub record IsWell (table : Timetable) : Type 0 where
   pub services : (journey : Journey) → Among journey table.journeys → journey.service < length table.services
+  pub dates : (service : Service) → Among service table.services → AreDays service.first service.last service.marks
+  pub labels : HaveOwnLabels table.journeys
+  pub shape : (journey : Journey) → Among journey table.journeys → AreWhole journey.calls
   pub times : (journey : Journey) → Among journey table.journeys → NoneFalls 0 journey.calls
   pub calls : (journey : Journey) → Among journey table.journeys → (call : Call) → Among call journey.calls → IsWellCall table call
   pub changes : (place : Place) → Among place table.places → (1 ≤ place.change) × (place.change ≤ 7200)
   pub one_each : (x y : Place) → Among x table.places → Among y table.places → x.stop ≡ y.stop → x ≡ y
   pub points : AreWellPoints table.region table.points
+  pub shared : (place : Place) → Among place table.places → is_exchange place.stop ≡ true → (point : Point) × Among point table.points × IsAt point place
+  pub placed : (point : Point) → Among point table.points → (place : Place) × Among place table.places × IsAt point place
+  pub few : AreFew table.places table.services table.journeys
   pub days : length table.noons ≡ 84001
   pub noons_low : (day : ℕ) → 2 ≤ day → day ≤ 84002 → 86400 * day + 43200 ≤ slice_index table.noons (day - 2) + 57540
   pub noons_high : (day : ℕ) → 2 ≤ day → day ≤ 84002 → slice_index table.noons (day - 2) ≤ 86400 * day + 43200 + 57540

@@ -36,7 +36,7 @@ impl Model for Above {
 
 impl Above {
     ghost use Rattle.ojp_timetable.specs.Lines.{IsWellLine, after_line, no_lines};
-    ghost use Rattle.ojp_timetable.specs.WellContents.{IsCall, IsOpen, IsWellAbove, IsWellContents, Passes};
+    ghost use Rattle.ojp_timetable.specs.WellContents.{AreWholeBut, IsWellAbove, IsWellContents, MayStand, Passes};
     ghost use Rattle.ojp_timetable.specs.Checks.{is_cut, is_long, read_line};
     ghost use Rattle.ojp_timetable.specs.TableText.{reason_of, with_line};
     ghost use Rattle.ojp_timetable.specs.Refusals.{IsLineRefusal, left_after};
@@ -81,7 +81,7 @@ impl Above {
     fn read_line(&self, text: &[u8]) -> Result<Line, TableReason>
         ensures value { result ≡ read_line self.now text.now }
         ensures well { IfOk result (IsWellLine self.now.lines) }
-        ensures opened { IfOk result (λ line. IsCall line → IsOpen self.now.left) }
+        ensures stands { IfOk result (MayStand self.now.left) }
         ensures passes { IfOk result (Passes self.now.contents self.now.left) }
         ensures short { OnOk result (self.now.bytes + length text.now ≤ BYTES) }
     {
@@ -121,6 +121,7 @@ impl Above {
         ensures named { 2 ≤ self.lines → 0 < length self.contents.region }
         ensures zone { IsZone self.contents.zone }
         ensures well { IsWellContents self.contents }
+        ensures whole { AreWholeBut self.left self.contents.journeys }
     {
         let Above { draft, .. } = self;
         draft

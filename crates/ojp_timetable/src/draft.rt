@@ -115,7 +115,8 @@ impl Draft {
     ghost use Rattle.ojp_timetable.specs.Checks.{is_doubled};
     ghost use Rattle.ojp_timetable.specs.Kept.{facts_of};
     ghost use Rattle.ojp_timetable.specs.Views.{calls_at, dates_of, place_view, view_of};
-    ghost use Rattle.ojp_timetable.specs.Tables.{Place as PlaceValue};
+    ghost use Rattle.ojp_timetable.specs.Tables.{Journey as JourneyValue, Place as PlaceValue};
+    ghost use Rattle.ojp_values.specs.Texts.{same};
     ghost use Rattle.ojp_timetable.specs.Lines.{grown, new_point, points_with_place, HasRegionFor};
 
     /// Nothing is declared; takes no memory.
@@ -172,6 +173,13 @@ impl Draft {
         ensures { result ≡ service_number self.now id.now }
     {
         self.services.get_index_of(id)
+    }
+
+    /// The number of the journey.
+    pub fn journey_number(&self, id: &Label) -> Option<usize>
+        ensures { result ≡ position (λ (journey : JourneyValue). same id.now journey.id) self.now.journeys }
+    {
+        self.journeys.get_index_of(id)
     }
 
     /// The number of stops with the exchange points.

@@ -1,9 +1,9 @@
 //! Laws of the definitions, each the contract of a function with nothing to do.
 
 ghost use Rattle.ojp_timetable.specs.Bounds.{AnswersAreBounded};
-ghost use Rattle.ojp_timetable.specs.Examples.{RideIsAJourney, FaultsAreNamed};
+ghost use Rattle.ojp_timetable.specs.Examples.{ChangeIsExact, DayIsExact, FaultsAreNamed, OutAndBackIsNone, PointsAreListed, RideIsAJourney};
 ghost use Rattle.ojp_timetable.specs.Journeys.{LegsAreBounded};
-ghost use Rattle.ojp_timetable.specs.Rows.{RowsAgree};
+ghost use Rattle.ojp_timetable.specs.Stepwise.{FormsAgree};
 ghost use Rattle.ojp_timetable.specs.TextLaws.{PointsAreWell, RefusalIsOne, TableIsOne, TextIsNotRefused};
 
 /// A ride of a small timetable is a journey of its region, and of the regions together.
@@ -11,14 +11,29 @@ pub fn ride_is_a_journey()
     ensures { RideIsAJourney }
 {}
 
+/// A journey ends at most a day after its start, to the second.
+pub fn day_is_exact()
+    ensures { DayIsExact }
+{}
+
+/// The time for a change within a region is exact to the second.
+pub fn change_is_exact()
+    ensures { ChangeIsExact }
+{}
+
+/// Rides out of an exchange point and back to it are no part of a journey.
+pub fn out_and_back_is_none()
+    ensures { OutAndBackIsNone }
+{}
+
 /// The faults that a region answers with, by a small timetable.
 pub fn faults_are_named()
     ensures { FaultsAreNamed }
 {}
 
-/// A united journey that is told by its flat rules, or by what may come next, is the same.
-pub fn rows_agree()
-    ensures { RowsAgree }
+/// A united journey that is told by its flat rules, or leg by leg, is the same.
+pub fn forms_agree()
+    ensures { FormsAgree }
 {}
 
 /// A journey of one region has no more legs than a document may have.
@@ -51,4 +66,9 @@ pub fn table_is_one()
 /// and each change time is from 1 to 7,200 seconds.
 pub fn points_are_well()
     ensures { PointsAreWell }
+{}
+
+/// The gateway lists the entries of all regions at an exchange point, by their codes.
+pub fn points_are_listed()
+    ensures { PointsAreListed }
 {}

@@ -14,6 +14,7 @@ mod read_words;
 pub mod reading;
 mod reason_words;
 pub mod refusals;
+mod rides;
 mod said;
 pub mod table;
 pub mod words;

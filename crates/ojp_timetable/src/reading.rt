@@ -1,6 +1,7 @@
 //! Reading the lines of a timetable.
-ghost use Rattle.std.specs.Prelude.{◌≡◌, ◌<◌, ◌≤◌, ◌+◌, ◌++◌, ◌∷◌, ◌==◌, List, ℕ, length, position, OnOk, IfErr};
+ghost use Rattle.std.specs.Prelude.{◌≡◌, ◌<◌, ◌≤◌, ◌+◌, ◌++◌, ◌∷◌, ◌==◌, List, ℕ, true, length, position, OnOk, IfErr};
 ghost use Rattle.ojp_timetable.specs.Lines.{no_lines};
+ghost use Rattle.ojp_timetable.specs.Said.{is_closed};
 ghost use Rattle.ojp_timetable.specs.TableText.{ArePassed, above_of, lines_of};
 ghost use Rattle.ojp_timetable.specs.Refusals.{IsRefusal, refusal_of};
 
@@ -43,6 +44,7 @@ pub fn read_lines(alloc: Global, bytes: &[u8], above: &mut Above) -> Result<(), 
     ensures passed { OnOk result (ArePassed (lines_of bytes.now) (length (lines_of bytes.now) + 1)) }
     ensures made { OnOk result (above.new ≡ above_of (lines_of bytes.now)) }
     ensures head { OnOk result (3 ≤ above.new.lines) }
+    ensures closed { OnOk result (is_closed above.new.left ≡ true) }
     ensures refused { IfErr result (IsRefusal bytes.now) }
 {
     let mut rest = bytes;

@@ -4,7 +4,7 @@ ghost use Rattle.std.specs.List.{list_all};
 ghost use Rattle.ojp_values.specs.Texts.{same};
 ghost use Rattle.ojp_timetable.specs.Lines.{IsWellLine, left_open};
 ghost use Rattle.ojp_timetable.specs.Runs.{IsOffset};
-ghost use Rattle.ojp_timetable.specs.WellContents.{IsCall, IsOpen};
+ghost use Rattle.ojp_timetable.specs.WellContents.{MayStand, MayStandClosed};
 ghost use Rattle.ojp_timetable.specs.Fields.{fields_of, IsNotThree, IsNotTwo};
 ghost use Rattle.ojp_timetable.specs.Said.{are_marks, call_fields, call_said, entry_said, header_said, is_closed, is_dash, is_mark, is_offset, journey_fields, journey_said, marks_of, may_call, neighbour_fields, neighbour_said, offset, place_fields, place_said, region_said, said, service_fields, service_said, word_fields, zone_said};
 
@@ -30,7 +30,7 @@ fn is_same(text: &[u8], other: &[u8]) -> bool
 fn read_place(shared: bool, stop: &[u8], change: &[u8], name: &[u8]) -> Result<Line, TableReason>
     ensures value { result ≡ place_said shared stop.now change.now name.now }
     ensures well { IfOk result (IsWellLine 3) }
-    ensures declares { IfOk result (λ line. IsCall line → ⊥) }
+    ensures stands { IfOk result MayStandClosed }
 {
     let Some(stop) = StopRef::from_bytes(stop) else {
         return Err(TableReason::Value);
@@ -56,7 +56,7 @@ fn read_neighbour(
 ) -> Result<Line, TableReason>
     ensures value { result ≡ neighbour_said region.now stop.now code.now change.now }
     ensures well { IfOk result (IsWellLine 3) }
-    ensures declares { IfOk result (λ line. IsCall line → ⊥) }
+    ensures stands { IfOk result MayStandClosed }
 {
     let Some(stop) = StopRef::from_bytes(stop) else {
         return Err(TableReason::Value);
@@ -114,7 +114,7 @@ fn read_marks(text: &[u8]) -> Option<[bool; 7]>
 fn read_service(id: &[u8], first: &[u8], last: &[u8], marks: &[u8]) -> Result<Line, TableReason>
     ensures value { result ≡ service_said id.now first.now last.now marks.now }
     ensures well { IfOk result (IsWellLine 3) }
-    ensures declares { IfOk result (λ line. IsCall line → ⊥) }
+    ensures stands { IfOk result MayStandClosed }
 {
     let Some(id) = Label::from_bytes(id) else {
         return Err(TableReason::Value);
@@ -138,7 +138,7 @@ fn read_service(id: &[u8], first: &[u8], last: &[u8], marks: &[u8]) -> Result<Li
 fn read_journey(id: &[u8], service: &[u8], line: &[u8]) -> Result<Line, TableReason>
     ensures value { result ≡ journey_said id.now service.now line.now }
     ensures well { IfOk result (IsWellLine 3) }
-    ensures declares { IfOk result (λ line. IsCall line → ⊥) }
+    ensures stands { IfOk result MayStandClosed }
 {
     let Some(id) = Label::from_bytes(id) else {
         return Err(TableReason::Value);
@@ -223,8 +223,7 @@ pub fn left_open(line: &Line) -> Open
 
 // Whether a call with this arrival and departure may stand here.
 fn may_call(left: &Open, arrives: &[u8], departs: &[u8]) -> bool
-    ensures value { result ≡ may_call left.now arrives.now departs.now }
-    ensures opened { IsTrue result → IsOpen left.now }
+    ensures { result ≡ may_call left.now arrives.now departs.now }
 {
     match left {
         Open::Nothing => false,
@@ -237,7 +236,7 @@ fn may_call(left: &Open, arrives: &[u8], departs: &[u8]) -> bool
 fn read_place_fields(shared: bool, fields: &mut Fields<'_>) -> Result<Line, TableReason>
     ensures value { result ≡ place_fields shared fields.old }
     ensures well { IfOk result (IsWellLine 3) }
-    ensures declares { IfOk result (λ line. IsCall line → ⊥) }
+    ensures stands { IfOk result MayStandClosed }
 {
     let Some(stop) = fields.next() else {
         return Err(TableReason::LineForm);
@@ -268,7 +267,7 @@ fn three<'a>(fields: &mut Fields<'a>) -> Option<(&'a [u8], &'a [u8], &'a [u8])>
 fn read_neighbour_fields(region: &[u8], fields: &mut Fields<'_>) -> Result<Line, TableReason>
     ensures value { result ≡ neighbour_fields region.now fields.old }
     ensures well { IfOk result (IsWellLine 3) }
-    ensures declares { IfOk result (λ line. IsCall line → ⊥) }
+    ensures stands { IfOk result MayStandClosed }
 {
     match three(fields) {
         Some((stop, code, change)) => read_neighbour(region, stop, code, change),
@@ -280,7 +279,7 @@ fn read_neighbour_fields(region: &[u8], fields: &mut Fields<'_>) -> Result<Line,
 fn read_service_fields(fields: &mut Fields<'_>) -> Result<Line, TableReason>
     ensures value { result ≡ service_fields fields.old }
     ensures well { IfOk result (IsWellLine 3) }
-    ensures declares { IfOk result (λ line. IsCall line → ⊥) }
+    ensures stands { IfOk result MayStandClosed }
 {
     let Some(id) = fields.next() else {
         return Err(TableReason::LineForm);
@@ -295,7 +294,7 @@ fn read_service_fields(fields: &mut Fields<'_>) -> Result<Line, TableReason>
 fn read_journey_fields(fields: &mut Fields<'_>) -> Result<Line, TableReason>
     ensures value { result ≡ journey_fields fields.old }
     ensures well { IfOk result (IsWellLine 3) }
-    ensures declares { IfOk result (λ line. IsCall line → ⊥) }
+    ensures stands { IfOk result MayStandClosed }
 {
     match three(fields) {
         Some((id, service, line)) => read_journey(id, service, line),
@@ -307,7 +306,7 @@ fn read_journey_fields(fields: &mut Fields<'_>) -> Result<Line, TableReason>
 fn read_call_fields(left: &Open, fields: &mut Fields<'_>) -> Result<Line, TableReason>
     ensures value { result ≡ call_fields left.now fields.old }
     ensures well { IfOk result (IsWellLine 3) }
-    ensures opened { IfOk result (λ line. IsCall line → IsOpen left.now) }
+    ensures stands { IfOk result (MayStand left.now) }
 {
     match three(fields) {
         Some((stop, arrives, departs)) => {
@@ -330,7 +329,7 @@ fn read_word_fields(
 ) -> Result<Line, TableReason>
     ensures value { result ≡ word_fields region.now left.now word fields.old }
     ensures well { IfOk result (IsWellLine 3) }
-    ensures opened { IfOk result (λ line. IsCall line → IsOpen left.now) }
+    ensures stands { IfOk result (MayStand left.now) }
 {
     if word == Word::Call {
         return read_call_fields(left, fields);
@@ -353,7 +352,7 @@ fn read_word_fields(
 fn read_entry(region: &[u8], left: &Open, line: &[u8]) -> Result<Line, TableReason>
     ensures value { result ≡ entry_said region.now left.now (fields_of line.now) }
     ensures well { IfOk result (IsWellLine 3) }
-    ensures opened { IfOk result (λ line. IsCall line → IsOpen left.now) }
+    ensures stands { IfOk result (MayStand left.now) }
 {
     let mut fields = Fields::new(line);
     let Some(word) = fields.next() else {
@@ -369,7 +368,7 @@ fn read_entry(region: &[u8], left: &Open, line: &[u8]) -> Result<Line, TableReas
 fn read_header(line: &[u8]) -> Result<Line, TableReason>
     ensures value { result ≡ header_said line.now }
     ensures well { IfOk result (IsWellLine 0) }
-    ensures declares { IfOk result (λ line. IsCall line → ⊥) }
+    ensures stands { IfOk result (λ line. (left : Open) → MayStand left line) }
 {
     if is_same(line, b"ojp-timetable 1") {
         Ok(Line::Header)
@@ -395,7 +394,7 @@ fn two<'a>(line: &'a [u8]) -> Option<(&'a [u8], &'a [u8])>
 fn read_region(line: &[u8]) -> Result<Line, TableReason>
     ensures value { result ≡ region_said (fields_of line.now) }
     ensures well { IfOk result (IsWellLine 1) }
-    ensures declares { IfOk result (λ line. IsCall line → ⊥) }
+    ensures stands { IfOk result (λ line. (left : Open) → MayStand left line) }
 {
     let Some((word, code)) = two(line) else {
         return Err(TableReason::LineForm);
@@ -413,7 +412,7 @@ fn read_region(line: &[u8]) -> Result<Line, TableReason>
 fn read_zone_line(line: &[u8]) -> Result<Line, TableReason>
     ensures value { result ≡ zone_said (fields_of line.now) }
     ensures well { IfOk result (IsWellLine 2) }
-    ensures declares { IfOk result (λ line. IsCall line → ⊥) }
+    ensures stands { IfOk result (λ line. (left : Open) → MayStand left line) }
 {
     let Some((word, zone)) = two(line) else {
         return Err(TableReason::LineForm);
@@ -433,7 +432,7 @@ fn read_zone_line(line: &[u8]) -> Result<Line, TableReason>
 pub fn read_said(above: u64, region: &[u8], left: &Open, line: &[u8]) -> Result<Line, TableReason>
     ensures value { result ≡ said above region.now left.now line.now }
     ensures well { IfOk result (IsWellLine above) }
-    ensures opened { IfOk result (λ line. IsCall line → IsOpen left.now) }
+    ensures stands { IfOk result (MayStand left.now) }
 {
     if above == 0 {
         return read_header(line);

@@ -8,7 +8,7 @@ use crate::kept::{JourneyView, PlaceView};
 use crate::lines::Dates;
 use crate::reading::read_lines;
 use crate::refusals::TableRefused;
-use ojp_values::{Code, Day, Instant, Name, Point, StopRef};
+use ojp_values::{Code, Day, Instant, Label, Name, Point, StopRef};
 use ojp_zones::noons::noons;
 use std::alloc::Global;
 use std::marker::Model;
@@ -35,7 +35,8 @@ impl Model for Timetable {
 }
 
 impl Timetable {
-    ghost use Rattle.ojp_timetable.specs.Tables.{Place as PlaceValue, change_of, has, name_of};
+    ghost use Rattle.ojp_values.specs.Texts.{same};
+    ghost use Rattle.ojp_timetable.specs.Tables.{Journey as JourneyValue, Place as PlaceValue, change_of, has, name_of};
     ghost use Rattle.ojp_timetable.specs.Runs.{IsWell, RunsOn, moment};
     ghost use Rattle.ojp_timetable.specs.Views.{calls_at, dates_of, place_view, view_of};
     ghost use Rattle.ojp_timetable.specs.TableText.{IsText};
@@ -56,9 +57,10 @@ impl Timetable {
         Ok(Timetable { draft, noons })
     }
 
-    /// The timetable is well: its times do not fall, its stops, services and noons are in range, and
-    /// its exchange points rise by reference, the neighbours of each by code, with no more of them and
-    /// no longer change times than a timetable may have.
+    /// The timetable is well: each journey has a label of its own and at least two calls, the first
+    /// without arrival and the last without departure; its times do not fall; its stops, services, days
+    /// and noons are in range; its exchange points are those among its places, and rise by reference,
+    /// the neighbours of each by code; and no limit of a timetable is passed.
     pub fn is_well(&self)
         ensures { IsWell self.now }
     {
@@ -120,6 +122,13 @@ impl Timetable {
         ensures { result ≡ length self.now.points }
     {
         self.draft.points()
+    }
+
+    /// The exchange points by rising reference.
+    pub fn points(&self) -> &[Point]
+        ensures { result.now ≡ self.now.points }
+    {
+        self.draft.point_slice()
     }
 
     /// The exchange point of that number, by rising reference.
@@ -199,6 +208,13 @@ impl Timetable {
             Some(journey) => journey,
             None => unreachable!(),
         }
+    }
+
+    /// The number of the journey of that label.
+    pub fn journey_of(&self, id: Label) -> Option<usize>
+        ensures { result ≡ position (λ (journey : JourneyValue). same id journey.id) self.now.journeys }
+    {
+        self.draft.journey_number(&id)
     }
 
     /// The calls of the journey of that number, and none where there is no such journey.

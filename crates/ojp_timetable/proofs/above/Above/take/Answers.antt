@@ -1,7 +1,7 @@
 use Rattle.std.proofs.Common.{◌+◌, ◌≤◌, length, sym, subst}
 use Rattle.ojp_timetable.specs.Contents.{Contents}
 use Rattle.ojp_timetable.specs.Lines.{Above, IsWellLine, grown}
-use Rattle.ojp_timetable.specs.WellContents.{IsCall, IsOpen, IsWellAbove, Passes}
+use Rattle.ojp_timetable.specs.WellContents.{IsWellAbove, MayStand, Passes}
 use Rattle.ojp_timetable.specs.declared.lines.Open.{Open}
 use Rattle.ojp_timetable.proofs.WellFacts.{above_keeps}
 use Rattle.ojp_timetable.proofs.above.Above.take.Goals as goal
@@ -15,7 +15,7 @@ invariant_of-self-2 c =
     let above : Above = record { lines = s.lines; bytes = s.bytes; left = s.left; contents = s.draft } in
     let kept = above_keeps above text line c.self.invariant
     (subst (λ (a : Above). IsWellLine a.lines line) v c.in-Ok.ensures.well)
-    (subst (λ (a : Above). IsCall line → IsOpen a.left) v c.in-Ok.ensures.opened)
+    (subst (λ (a : Above). MayStand a.left line) v c.in-Ok.ensures.stands)
     (subst (λ (a : Above). Passes a.contents a.left line) v c.in-Ok.ensures.passes)
     (subst (λ (a : Above). a.bytes + length text ≤ 16777216) v c.in-Ok.ensures.short) in
     subst (λ (contents : Contents). IsWellAbove (record { lines = s.lines + 1; bytes = s.bytes + length text; left = c.left_open-self-inside.result; contents = contents }))
