@@ -28,6 +28,14 @@ pub named_found : (view : List (List ℕ × List ℕ)) (files all : List (String
 named_found view files all name bytes v f e =
     ap (λ (l : List (List ℕ × List ℕ)). first_named l name) (sym v ∙ ap named_contents (sym f)) ∙ first_named_is files name ∙ sym e
 
+-- no file has this name
+pub named_missing : (view : List (List ℕ × List ℕ)) (files all : List (String Global × Vec ℕ Global)) (name : List ℕ)
+    → named_contents all ≡ view → files ≡ all
+    → None ≡ option_map (λ f. f.1.items) (find (λ f. bytes_eq (string_bytes f.0) name) files)
+    → first_named view name ≡ None
+named_missing view files all name v f e =
+    ap (λ (l : List (List ℕ × List ℕ)). first_named l name) (sym v ∙ ap named_contents (sym f)) ∙ first_named_is files name ∙ sym e
+
 -- a copy of the contents is the contents
 pub named_copied : (r : Result (Vec ℕ Global) StoreRefused) (named : Option (List ℕ)) (bytes : List ℕ)
     → named ≡ Some bytes → IfOk r (λ copy. copy.items ≡ bytes) → IfOk r (λ copy. named ≡ Some copy.items)

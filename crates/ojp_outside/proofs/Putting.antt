@@ -9,23 +9,23 @@ use Rattle.std.proofs.KnownBytes.{Appends-nil, Appends-trans, Appends-kept}
 use Rattle.std.proofs.Math.Seq.{take-append_seam, take-append-add}
 use Rattle.ojp_outside.specs.Known.{AppendsPrefix}
 
--- done was written of the bytes, rest is to come, and the count has not fallen
+-- done was written of the bytes, rest is to come, and the count stands still
 pub record Puts (old new : Option (List ℕ)) (bytes rest : List ℕ) (before now : ℕ) : Type 0 where
   pub done : List ℕ
   pub split : bytes ≡ done ++ rest
   pub written : Appends old new done
-  pub later : before ≤ now
+  pub at_rest : now ≡ before
 
 pub Puts-start : (old : Option (List ℕ)) (bytes : List ℕ) (now : ℕ) → Puts old old bytes bytes now now
-Puts-start old bytes now = record { done = []; split = refl; written = Appends-nil old; later = omega arith }
+Puts-start old bytes now = record { done = []; split = refl; written = Appends-nil old; at_rest = refl }
 
 pub Puts-more : (old mid new : Option (List ℕ)) (bytes rest : List ℕ) (n before now later : ℕ)
-    → Puts old mid bytes rest before now → Appends mid new (take n rest) → now ≤ later → Puts old new bytes (drop n rest) before later
+    → Puts old mid bytes rest before now → Appends mid new (take n rest) → later ≡ now → Puts old new bytes (drop n rest) before later
 Puts-more old mid new bytes rest n before now later p a le = record {
   done = p.done ++ take n rest;
   split = p.split ∙ ap (λ l. p.done ++ l) (sym (take-append-drop n rest)) ∙ sym (append_assoc p.done (take n rest) (drop n rest));
   written = Appends-trans old mid new p.done (take n rest) p.written a;
-  later = let h = p.later in omega arith;
+  at_rest = le ∙ p.at_rest;
 }
 
 -- all was written
@@ -49,10 +49,10 @@ AppendsPrefix-behind old mid new front part rest a p =
 abbrev pub bytes_of : List (Bor (List ℕ)) → List ℕ
 bytes_of parts = flat_map (λ part. part.now) parts
 
--- the first parts were written, and the count has not fallen
+-- the first parts were written, and the count stands still
 pub record PutsParts (old new : Option (List ℕ)) (parts : List (Bor (List ℕ))) (n before now : ℕ) : Type 0 where
   pub written : Appends old new (bytes_of (take n parts))
-  pub later : before ≤ now
+  pub at_rest : now ≡ before
 
 -- the bytes of the parts before the i-th, of the i-th, and of those behind it
 pub bytes_of-split : (parts : List (Bor (List ℕ))) (i : ℕ) (d : Bor (List ℕ)) → i < length parts

@@ -4,19 +4,19 @@ use Rattle.std.proofs.lemmas.List.{drop-drop, length-drop, nil_from_length}
 use Rattle.std.specs.Io.KnownBytes.{Consumes, Keeps}
 use Rattle.std.proofs.KnownBytes.{Consumes-nil, Consumes-trans, Consumes-kept}
 
--- these bytes were taken, and the count has not fallen
+-- these bytes were taken, and the count stands still
 pub record Takes (old new : Option (List ℕ)) (taken : List ℕ) (before now : ℕ) : Type 0 where
   pub consumed : Consumes old new taken
-  pub later : before ≤ now
+  pub at_rest : now ≡ before
 
 pub Takes-start : (old : Option (List ℕ)) (now : ℕ) → Takes old old [] now now
-Takes-start old now = record { consumed = Consumes-nil old; later = omega arith }
+Takes-start old now = record { consumed = Consumes-nil old; at_rest = refl }
 
 pub Takes-more : (old mid new : Option (List ℕ)) (taken more : List ℕ) (before now later : ℕ)
-    → Takes old mid taken before now → Consumes mid new more → now ≤ later → Takes old new (taken ++ more) before later
+    → Takes old mid taken before now → Consumes mid new more → later ≡ now → Takes old new (taken ++ more) before later
 Takes-more old mid new taken more before now later t c le = record {
   consumed = Consumes-trans old mid new taken more t.consumed c;
-  later = let h = t.later in omega arith;
+  at_rest = le ∙ t.at_rest;
 }
 
 -- a read gave the front of what was left, and nothing only where nothing was left

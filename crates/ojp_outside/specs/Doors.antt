@@ -1,6 +1,8 @@
 -- Doors: what was asked of them, and which connections were given and came back.
 use Rattle.std.specs.Prelude.{◌≡◌, ℕ, ◌+◌, ◌≤◌, Bool, true, false, nat_le, List, [], ◌∷◌, ◌++◌, IfSome, Option, Some, None, Result, Ok, Err}
 use Rattle.ojp_outside.specs.Causes.{next_count}
+use Rattle.ojp_outside.specs.declared.doors.DoorRefused.{DoorRefused}
+use Rattle.ojp_outside.specs.declared.doors.DoorRefused.TheVariants.{Failed, Closed}
 
 -- what a connection has: the bytes that its input has left, where they are told, and the faults of input and output
 pub record Had : Type 0 where
@@ -28,6 +30,12 @@ pub record DoorsView : Type 0 where
   pub out : Option Had
   -- where they are told, the connections that came back
   pub returned : Option (List Entry)
+
+-- the count of faults after a call: it rises where the call failed, and nowhere else
+abbrev pub faults_after_call : {T : Type 0} → Result T DoorRefused → ℕ → ℕ
+faults_after_call (Ok value) faults = faults
+faults_after_call (Err Failed) faults = next_count faults
+faults_after_call (Err Closed) faults = faults
 
 -- nothing was asked yet
 abbrev pub no_doors : DoorsView

@@ -11,3 +11,8 @@ is_planned call plan = list_any (λ n. n == call) plan
 abbrev pub refused_after : {T E : Type 0} → Bool → Result T E → ℕ → ℕ
 refused_after planned (Ok count) refused = refused
 refused_after planned (Err failed) refused = if planned then refused else next_count refused
+
+-- the count of faults after an answer: it rises where the call failed, and nowhere else
+abbrev pub faults_after : {T E : Type 0} → Result T E → ℕ → ℕ
+faults_after (Ok value) faults = faults
+faults_after (Err failed) faults = next_count faults

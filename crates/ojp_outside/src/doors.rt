@@ -31,6 +31,7 @@ pub trait Doors {
         ensures listening { seen self.new ≡ listening (seen self.old) at most }
         ensures not_closed { result ≢ Err DoorRefused.Closed }
         ensures later { faults self.old ≤ faults self.new }
+        ensures at_rest { result ≢ Err DoorRefused.Failed → faults self.new ≡ faults self.old }
         ensures failed { result ≡ Err DoorRefused.Failed → Rose (faults self.old) (faults self.new) };
 
     /// The next connection, whose output has written nothing.
@@ -42,6 +43,7 @@ pub trait Doors {
         ensures kept { OnErr result (seen self.new ≡ seen self.old) }
         ensures closed { result ≡ Err DoorRefused.Closed ↔ IsTrue (has_all (seen self.old).asked (seen self.old).given) }
         ensures later { faults self.old ≤ faults self.new }
+        ensures at_rest { result ≢ Err DoorRefused.Failed → faults self.new ≡ faults self.old }
         ensures failed { result ≡ Err DoorRefused.Failed → Rose (faults self.old) (faults self.new) };
 
     /// Takes back the connection that is out.
@@ -50,7 +52,7 @@ pub trait Doors {
         ensures returned { Returns (seen self.old) (seen self.new)
             (record { left = Self.In.left input; input_faults = Self.In.faults input; output_faults = Self.Out.faults output })
             (Self.Out.written output) }
-        ensures later { faults self.old ≤ faults self.new };
+        ensures at_rest { faults self.new ≡ faults self.old };
 
     /// Of a connection that is out it is told what it had, where the connections that came back are told.
     ghost told: { (d : Self) → (seen d).is_out ≡ true → IfSome (seen d).returned (λ entries. IsSome (seen d).out) };

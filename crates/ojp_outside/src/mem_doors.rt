@@ -1,8 +1,8 @@
 //! Doors in memory.
-ghost use Rattle.std.specs.Prelude.{◌≡◌, ◌≢◌, ◌≤◌, ◌↔◌, ◌∷◌, [], ◌<◌, ℕ, length, map, IfOk, OnErr, OnOk, IsTrue, Some, None, Ok, Err, false, slice_get, vec_capacity, vec_len, is_some, ◌⊎◌};
+ghost use Rattle.std.specs.Prelude.{◌≡◌, ◌≢◌, ◌≤◌, ◌↔◌, ◌∷◌, [], ◌<◌, ℕ, length, map, IfOk, OnErr, OnOk, IsErr, IsTrue, Some, None, Ok, Err, true, false, slice_get, vec_capacity, vec_len, is_some, ◌⊎◌};
 ghost use Rattle.std.specs.Option.{option_map};
 ghost use Rattle.ojp_outside.specs.Causes.{Rose, next_count};
-ghost use Rattle.ojp_outside.specs.Doors.{Gives, has_all, listening};
+ghost use Rattle.ojp_outside.specs.Doors.{Gives, Returns, has_all, listening, faults_after_call};
 ghost use Rattle.ojp_outside.specs.MemoryDoors.{seen_of};
 ghost use Rattle.ojp_outside.specs.Planned.{is_planned};
 
@@ -94,7 +94,18 @@ impl Doors for MemDoors {
 
     ghost told = { λ d out. out };
 
-    fn listen(&mut self, at: u16, most: Option<u64>) -> Result<(), DoorRefused> {
+    fn listen(&mut self, at: u16, most: Option<u64>) -> Result<(), DoorRefused>
+        ensures listening { seen_of self.new ≡ listening (seen_of self.old) at most }
+        ensures not_closed { result ≢ Err DoorRefused.Closed }
+        ensures later { self.old.faults ≤ self.new.faults }
+        ensures failed { result ≡ Err DoorRefused.Failed → Rose self.old.faults self.new.faults }
+        ensures planned { result ≡ Err DoorRefused.Failed ↔ IsTrue (is_planned self.new.calls self.old.fails_at) }
+        ensures at_rest { result ≢ Err DoorRefused.Failed → self.new.faults ≡ self.old.faults }
+        ensures faults { self.new.faults ≡ faults_after_call result self.old.faults }
+        ensures waiting { self.new.waiting ≡ self.old.waiting }
+        ensures calls { self.new.calls ≡ next_count self.old.calls }
+        ensures fails_at { self.new.fails_at ≡ self.old.fails_at }
+    {
         self.wanted = Some(Wanted { port: at, most });
         self.given = 0;
         if self.plan.fails_now() {
@@ -114,8 +125,14 @@ impl Doors for MemDoors {
         ensures failed { result ≡ Err DoorRefused.Failed → Rose self.old.faults self.new.faults }
         ensures in_order { IfOk result (λ connection. self.old.waiting ≡ connection.0 ∷ self.new.waiting) }
         ensures calls { self.new.calls ≡ next_count self.old.calls }
-        ensures planned { result ≡ Err DoorRefused.Failed
+        ensures failed_only { result ≡ Err DoorRefused.Failed
             → IsTrue (is_planned self.new.calls self.old.fails_at) ⊎ (self.old.waiting ≡ []) }
+        ensures planned { IsTrue (is_planned self.new.calls self.old.fails_at) → IsErr result }
+        ensures at_rest { result ≢ Err DoorRefused.Failed → self.new.faults ≡ self.old.faults }
+        ensures faults { self.new.faults ≡ faults_after_call result self.old.faults }
+        ensures waiting { OnErr result (self.new.waiting ≡ self.old.waiting) }
+        ensures fails_at { self.new.fails_at ≡ self.old.fails_at }
+        ensures new { IfOk result (λ connection. connection.1 ≡ record { written = []; fails_at = []; calls = 0; faults = 0; refused = 0 }) }
     {
         if is_complete(self.wanted, self.given) {
             self.plan.count_call();
@@ -135,7 +152,14 @@ impl Doors for MemDoors {
         Err(DoorRefused::Failed)
     }
 
-    fn back(&mut self, input: MemSource, output: MemSink) {
+    fn back(&mut self, input: MemSource, output: MemSink)
+        requires { is_some self.old.out ≡ true }
+        ensures returned { Returns (seen_of self.old) (seen_of self.new)
+            (record { left = Some input.left; input_faults = input.faults; output_faults = output.faults })
+            (Some output.written) }
+        ensures at_rest { self.new.faults ≡ self.old.faults }
+        ensures kept { self.new ≡ record self.old { out = None; returned = self.new.returned } }
+    {
         if let Some(given) = self.out.take() {
             self.returned.push_reserved(Returned {
                 given,

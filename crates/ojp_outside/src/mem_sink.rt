@@ -3,7 +3,7 @@ ghost use Rattle.std.specs.Prelude.{◌≡◌, ◌<◌, ◌+◌, ℕ, List, [], 
 ghost use Rattle.std.specs.Io.{WritesAtMost};
 ghost use Rattle.std.specs.Io.KnownBytes.{WriteAppends};
 ghost use Rattle.ojp_outside.specs.Causes.{HasCause, next_count};
-ghost use Rattle.ojp_outside.specs.Planned.{is_planned, refused_after};
+ghost use Rattle.ojp_outside.specs.Planned.{is_planned, refused_after, faults_after};
 
 use crate::plan::Plan;
 use crate::{Failed, Sink};
@@ -65,6 +65,7 @@ impl Sink for MemSink {
         ensures cause { HasCause self.old.faults self.new.faults result }
         ensures whole { IfOk result (λ count. count ≡ length from.now) }
         ensures planned { IsTrue (is_planned self.new.calls self.old.fails_at) → IsErr result }
+        ensures faults { self.new.faults ≡ faults_after result self.old.faults }
         ensures calls { self.new.calls ≡ next_count self.old.calls }
         ensures fails_at { self.new.fails_at ≡ self.old.fails_at }
         ensures refused { self.new.refused ≡ refused_after (is_planned self.new.calls self.old.fails_at) result self.old.refused }

@@ -4,7 +4,7 @@ ghost use Rattle.std.specs.Io.{ReadsAtMost};
 ghost use Rattle.std.specs.Io.KnownBytes.{ReadConsumes};
 ghost use Rattle.ojp_outside.specs.Causes.{HasCause, next_count};
 ghost use Rattle.ojp_outside.specs.Known.{ended_by};
-ghost use Rattle.ojp_outside.specs.Planned.{is_planned};
+ghost use Rattle.ojp_outside.specs.Planned.{is_planned, faults_after};
 
 use crate::plan::Plan;
 use crate::source::sees_end;
@@ -87,6 +87,7 @@ impl Source for MemSource {
         ensures cause { HasCause self.old.faults self.new.faults result }
         ensures planned { IsErr result ↔ IsTrue (is_planned self.new.calls self.old.fails_at) }
         ensures piece { IfOk result (λ count. count ≤ self.old.most) }
+        ensures faults { self.new.faults ≡ faults_after result self.old.faults }
         ensures calls { self.new.calls ≡ next_count self.old.calls }
         ensures fails_at { self.new.fails_at ≡ self.old.fails_at }
         ensures most { self.new.most ≡ self.old.most }

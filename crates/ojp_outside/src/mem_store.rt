@@ -1,12 +1,11 @@
 //! A store in memory.
-ghost use Rattle.std.specs.Prelude.{◌≡◌, ◌≤◌, ◌<◌, ℕ, List, IfOk, IfSome, IsErr, IsTrue, IsOk, length, vec_len, Some, None, Ok, Err, option_copied, ◌≢◌, find, string_bytes};
+ghost use Rattle.std.specs.Prelude.{◌≡◌, ◌≤◌, ◌<◌, ℕ, List, IfOk, IfSome, IsSomeAnd, IsErr, IsTrue, IsOk, length, vec_len, Some, None, Ok, Err, option_copied, ◌≢◌, ◌⊎◌, find, string_bytes};
 ghost use Rattle.std.specs.Str.{bytes_eq};
 ghost use Rattle.std.specs.Option.{option_map};
 ghost use Rattle.ojp_outside.specs.Memory.{named_contents};
-ghost use Rattle.std.specs.Option.{ForSome};
 ghost use Rattle.ojp_outside.specs.Causes.{Rose, next_count};
 ghost use Rattle.ojp_outside.specs.Planned.{is_planned};
-ghost use Rattle.ojp_outside.specs.Files.{failed_name_after, IsContents, first_named};
+ghost use Rattle.ojp_outside.specs.Files.{failed_name_after, faults_after_read, IsContents, first_named};
 
 use crate::plan::Plan;
 use crate::{FILE_LIMIT, Store, StoreRefused};
@@ -42,6 +41,24 @@ impl MemStore {
             plan: Plan::new(faults),
         }
     }
+
+    /// Fails, keeps the name and counts the fault.
+    fn fail(&mut self, alloc: Global, name: &str) -> Result<Vec<u8>, StoreRefused>
+        ensures failed { (result ≡ Err StoreRefused.Failed) ⊎ (result ≡ Err StoreRefused.NoMemory) }
+        ensures failed_name { Some self.new.failed_name ≡ failed_name_after (Some self.old.failed_name) result name.now }
+        ensures later { self.old.faults ≤ self.new.faults }
+        ensures faults { self.new.faults ≡ faults_after_read result self.old.faults }
+        ensures kept { self.new ≡ record self.old { failed_name = self.new.failed_name; faults = self.new.faults } }
+    {
+        match String::from_str(alloc, name) {
+            Ok(name) => {
+                self.failed_name = Some(name);
+                self.plan.count_fault();
+                Err(StoreRefused::Failed)
+            }
+            Err(_) => Err(StoreRefused::NoMemory),
+        }
+    }
 }
 
 /// The contents of the first file of this name.
@@ -65,28 +82,26 @@ impl Store for MemStore {
     fn read_file(&mut self, alloc: Global, name: &str) -> Result<Vec<u8>, StoreRefused>
         ensures ok { IfOk result (λ bytes. first_named self.old.files name.now ≡ Some bytes.items) }
         ensures limit { IfOk result (λ bytes. vec_len bytes ≤ 16777216) }
-        ensures missing { first_named self.old.files name.now ≡ None → IsErr result }
-        ensures too_long { result ≡ Err StoreRefused.TooLong → ForSome (first_named self.old.files name.now) (λ bytes. 16777216 < length bytes) }
+        ensures missing { first_named self.old.files name.now ≡ None → (result ≡ Err StoreRefused.Failed) ⊎ (result ≡ Err StoreRefused.NoMemory) }
+        ensures too_long { result ≡ Err StoreRefused.TooLong → IsSomeAnd (first_named self.old.files name.now) (λ bytes. 16777216 < length bytes) }
         ensures kept { Some (first_named self.new.files) ≡ Some (first_named self.old.files) }
         ensures failed_name { Some self.new.failed_name ≡ failed_name_after (Some self.old.failed_name) result name.now }
         ensures later { self.old.faults ≤ self.new.faults }
         ensures failed { result ≡ Err StoreRefused.Failed → Rose self.old.faults self.new.faults }
-        ensures planned { IsTrue (is_planned self.new.calls self.old.fails_at) → IsErr result }
+        ensures planned { IsTrue (is_planned self.new.calls self.old.fails_at) → (result ≡ Err StoreRefused.Failed) ⊎ (result ≡ Err StoreRefused.NoMemory) }
+        ensures failed_only { result ≡ Err StoreRefused.Failed → IsTrue (is_planned self.new.calls self.old.fails_at) ⊎ (first_named self.old.files name.now ≡ None) }
+        ensures at_rest { result ≢ Err StoreRefused.Failed → self.new.faults ≡ self.old.faults }
+        ensures faults { self.new.faults ≡ faults_after_read result self.old.faults }
         ensures calls { self.new.calls ≡ next_count self.old.calls }
         ensures fails_at { self.new.fails_at ≡ self.old.fails_at }
         ensures files { self.new.files ≡ self.old.files }
     {
-        let is_planned = self.plan.fails_now();
-        if !is_planned && let Some(bytes) = find_named(&self.files, name) {
-            return whole(alloc, bytes);
+        if self.plan.is_planned_now() {
+            return self.fail(alloc, name);
         }
-        self.plan.count_unplanned(is_planned);
-        match String::from_str(alloc, name) {
-            Ok(name) => {
-                self.failed_name = Some(name);
-                Err(StoreRefused::Failed)
-            }
-            Err(_) => Err(StoreRefused::NoMemory),
+        match find_named(&self.files, name) {
+            Some(bytes) => whole(alloc, bytes),
+            None => self.fail(alloc, name),
         }
     }
 }

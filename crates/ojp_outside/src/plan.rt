@@ -24,7 +24,18 @@ impl Plan {
         }
     }
 
-    /// Counts a call, and says whether it is one of those that fail.
+    /// Counts a call, and says whether it is to fail; the fault is not counted.
+    pub fn is_planned_now(&mut self) -> bool
+        ensures plan { self.new.fails_at ≡ self.old.fails_at }
+        ensures calls { self.new.calls ≡ next_count self.old.calls }
+        ensures planned { result ≡ is_planned (next_count self.old.calls) self.old.fails_at.items }
+        ensures faults { self.new.faults ≡ self.old.faults }
+    {
+        self.calls = self.calls.saturating_add(1);
+        self.fails_at.contains(&self.calls)
+    }
+
+    /// Counts a call, and says whether it fails; a fault is counted.
     pub fn fails_now(&mut self) -> bool
         ensures plan { self.new.fails_at ≡ self.old.fails_at }
         ensures calls { self.new.calls ≡ next_count self.old.calls }
@@ -32,8 +43,7 @@ impl Plan {
         ensures later { self.old.faults ≤ self.new.faults }
         ensures faults { self.new.faults ≡ (if result then next_count self.old.faults else self.old.faults) }
     {
-        self.calls = self.calls.saturating_add(1);
-        let is_planned = self.fails_at.contains(&self.calls);
+        let is_planned = self.is_planned_now();
         if is_planned {
             self.count_fault();
         }

@@ -1,5 +1,5 @@
 //! Reading a source up to its end, or to a limit.
-ghost use Rattle.std.specs.Prelude.{◌≡◌, ◌<◌, ◌≤◌, ◌++◌, ℕ, List, IfOk, OnErr, IsTrue, length, vec_len, Err};
+ghost use Rattle.std.specs.Prelude.{◌≡◌, ◌≢◌, ◌<◌, ◌≤◌, ◌++◌, ℕ, List, IfOk, OnErr, IsTrue, length, vec_len, Err};
 ghost use Rattle.std.specs.Io.KnownBytes.{Consumes, IsAtEnd};
 ghost use Rattle.ojp_outside.specs.Causes.{Rose};
 ghost use Rattle.ojp_outside.specs.Known.{LosesPrefix};
@@ -32,6 +32,7 @@ pub fn read_all<S: Source>(
     ensures ended { IfOk result (λ bytes. vec_len bytes < most → IsTrue (S.ended source.new)) }
     ensures lost { OnErr result (LosesPrefix (S.left source.old) (S.left source.new)) }
     ensures later { S.faults source.old ≤ S.faults source.new }
+    ensures at_rest { result ≢ Err ReadRefused.Failed → S.faults source.new ≡ S.faults source.old }
     ensures failed { result ≡ Err ReadRefused.Failed → Rose (S.faults source.old) (S.faults source.new) }
 {
     let mut taken: Vec<u8> = Vec::new(alloc);

@@ -1,6 +1,5 @@
 //! A store of files by name.
-ghost use Rattle.std.specs.Prelude.{◌≡◌, ◌≤◌, ◌<◌, ◌+◌, ℕ, List, IfOk, IfSome, IsErr, length, vec_len, Option, Some, None, Ok, Err};
-ghost use Rattle.std.specs.Option.{ForSome};
+ghost use Rattle.std.specs.Prelude.{◌≡◌, ◌≢◌, ◌≤◌, ◌<◌, ◌+◌, ℕ, List, IfOk, IfSome, IsSomeAnd, ◌⊎◌, length, vec_len, Option, Some, None, Ok, Err};
 ghost use Rattle.ojp_outside.specs.Causes.{Rose};
 ghost use Rattle.ojp_outside.specs.Files.{failed_name_after, IsContents};
 
@@ -35,11 +34,12 @@ pub trait Store {
     fn read_file(&mut self, alloc: Global, name: &str) -> Result<Vec<u8>, StoreRefused>
         ensures ok { IfOk result (λ bytes. IsContents (contents self.old) name.now bytes.items) }
         ensures limit { IfOk result (λ bytes. vec_len bytes ≤ 16777216) }
-        ensures missing { IfSome (contents self.old) (λ files. files name.now ≡ None → IsErr result) }
+        ensures missing { IfSome (contents self.old) (λ files. files name.now ≡ None → (result ≡ Err StoreRefused.Failed) ⊎ (result ≡ Err StoreRefused.NoMemory)) }
         ensures too_long { result ≡ Err StoreRefused.TooLong
-            → IfSome (contents self.old) (λ files. ForSome (files name.now) (λ bytes. 16777216 < length bytes)) }
+            → IfSome (contents self.old) (λ files. IsSomeAnd (files name.now) (λ bytes. 16777216 < length bytes)) }
         ensures kept { contents self.new ≡ contents self.old }
         ensures failed_name { failed_name self.new ≡ failed_name_after (failed_name self.old) result name.now }
         ensures later { faults self.old ≤ faults self.new }
+        ensures at_rest { result ≢ Err StoreRefused.Failed → faults self.new ≡ faults self.old }
         ensures failed { result ≡ Err StoreRefused.Failed → Rose (faults self.old) (faults self.new) };
 }

@@ -145,8 +145,16 @@ fn clocks_never_go_back(rt: HostRuntime) -> Result<(), Fail> {
 fn tcp_doors_listen_on_this_machine(rt: HostRuntime) -> Result<(), Fail> {
     let alloc = rt.alloc();
     let mut doors = TcpDoors::new(rt.clone()?);
-    assert_eq!(rt; doors.listen(47613, Some(1)), Ok(()));
-    let mut peer = StdSink::new(TcpStream::connect(&rt, "127.0.0.1:47613")?);
+    // The first port of a range that no other program has.
+    let mut port: u16 = 0;
+    for free in 47613..47713 {
+        if doors.listen(free, Some(1)).is_ok() {
+            port = free;
+            break;
+        }
+    }
+    let address = format!(in alloc; "127.0.0.1:{port}")?;
+    let mut peer = StdSink::new(TcpStream::connect(&rt, address.as_str())?);
     put_all(&mut peer, b"ask")?;
     match doors.next() {
         Ok((mut input, output)) => {

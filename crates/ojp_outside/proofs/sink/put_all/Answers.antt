@@ -7,7 +7,7 @@ pub writing-preserved : goal.writing-preserved
 writing-preserved g c =
     subst (λ (l : List ℕ). Puts (g.S.Sink.written c.args.sink.now) (g.S.Sink.written c.write.new.self) c.args.bytes.now l (g.S.Sink.faults c.args.sink.now) (g.S.Sink.faults c.write.new.self))
     (sym (take_rest c.writing.rest.now c.in-Ok.count))
-    (Puts-more _ _ _ _ _ _ _ _ _ c.writing.invariant c.in-Ok.ensures.bytes c.in-Ok.ensures.cause.later)
+    (Puts-more _ _ _ _ _ _ _ _ _ c.writing.invariant c.in-Ok.ensures.bytes c.in-Ok.ensures.cause.at_rest)
 
 pub returns-in-Err-clause-err : goal.returns-in-Err-clause-err
 returns-in-Err-clause-err g c = Puts-prefix _ _ _ _ _ _ _ c.writing.invariant c.in-Err.ensures.bytes
