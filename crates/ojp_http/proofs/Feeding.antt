@@ -117,7 +117,7 @@ Took-all a b piece before got used x (inr w) = record { goes = x; all = λ n. ab
 -- ---- the end of the input
 
 -- where the input ends before the message does, it is cut
-cut_at : (p : Place) (room : Option ℕ) (kept : List ℕ) (scan : Scan) → IsOpenAt p kept scan → is_whole_at p ≡ false → ReadsAt p room kept [] (cut [])
+pub cut_at : (p : Place) (room : Option ℕ) (kept : List ℕ) (scan : Scan) → IsOpenAt p kept scan → is_whole_at p ≡ false → ReadsAt p room kept [] (cut [])
 cut_at Head room kept scan o n = subst (λ (l : List ℕ). Asks l (cut [])) (sym (append-nil kept)) (Begins.begun o.0 o.1.unfull refl)
 cut_at ReplyHead room kept scan o n = subst (λ (l : List ℕ). Replies l (cut [])) (sym (append-nil kept)) (Begins.begun o.0 o.1.unfull refl)
 cut_at (Content left) room kept scan o n = Takes.short o refl
@@ -134,5 +134,5 @@ cut_here f o n = cut_at f.place f.room f.kept.items f.scan o n
 -- a stop in a piece
 pub feeds_stop : (a b c : Framing) (piece before mid got left : List ℕ) (used : ℕ) (stop : Stop) → Goes a b piece before mid used → left ≡ drop used piece
     → Steps b left mid (Err stop) c got → Feeds a piece before (Err stop) c got
-feeds_stop a b c piece before mid got left used (Refused e) x is s = Goes-refused a b piece before mid left used e x is s
-feeds_stop a b c piece before mid got left used NoMemory x is s = tt
+feeds_stop a b c piece before mid got left used (Refused e) x is s = (Goes-refused a b piece before mid left used e x is s.0, (x.gained, s.1 ∙ x.grows))
+feeds_stop a b c piece before mid got left used NoMemory x is s = (x.gained, s ∙ x.grows)

@@ -12,3 +12,11 @@ pub mod Scans
 pub mod Stepping
 pub mod Unique
 pub mod WholeMessages
+pub mod Continuing
+pub mod Opened
+pub mod FewFacts
+pub mod Written
+pub mod WrittenReplies
+pub mod WrittenRequests
+pub mod Statuses
+pub mod ServingFacts

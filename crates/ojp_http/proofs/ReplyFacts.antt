@@ -22,6 +22,11 @@ use Rattle.ojp_http.proofs.WholeMessages.{replies_only, beginning_law}
 use Rattle.ojp_http.proofs.MachineFacts.{after-nil}
 use Rattle.ojp_http.proofs.Stepping.{after-append}
 use Rattle.ojp_http.proofs.Feeding.{whole_place}
+use Rattle.ojp_http.proofs.Opened.{open_cut, open_goes_on}
+
+take_all : (l : List ℕ) → take (length l) l ≡ l
+take_all [] = refl
+take_all (x ∷ l) = ap (λ (r : List ℕ). x ∷ r) (take_all l)
 
 -- a reply at this stage, over this framing
 abbrev pub view_of : Stage → Framing → ReplyView
@@ -48,7 +53,7 @@ pub open_new : (f : Framing) → IsNewReply f → IsOpenAt f.place f.kept.items 
 open_new f n = (n.ready, not_whole f.place n.unfinished)
 
 -- where the bytes are refused, no reply begins with them
-begins_none : (bytes : List ℕ) (e : Refusal) → ((rest : List ℕ) → Replies (bytes ++ rest) (refused e)) → BeginsNoReply bytes
+pub begins_none : (bytes : List ℕ) (e : Refusal) → ((rest : List ℕ) → Replies (bytes ++ rest) (refused e)) → BeginsNoReply bytes
 begins_none bytes e decided more body x = let same : refused e ≡ whole body [] = replies_only (bytes ++ more) body [] (refused e) x (decided more) in cc
 
 none_before : (a b : List ℕ) → a ++ b ≡ [] → a ≡ []
@@ -91,30 +96,40 @@ module _ (f g : Framing) (bytes got piece items out : List ℕ) where
       → ReadsOn (view_of Reading g) bytes got piece items out (Ok fed.More)
   more_core used h t n =
       let gained = t.goes.gained in
-      let all : used ≡ length piece = t.all (λ w. let e : true ≡ false = ap is_whole_at (sym w) ∙ n in cc) in (
-        record {
+      let all : used ≡ length piece = t.all (λ w. let e : true ≡ false = ap is_whole_at (sym w) ∙ n in cc) in
+      let some : HasTaken (view_of Reading g) (bytes ++ take used piece) (got ++ gained) = record {
+        reads = λ rest v x.
+            subst (λ (l : List ℕ). Replies l (after (got ++ gained) v)) (sym (append_assoc bytes (take used piece) rest))
+            (subst (λ (w : Verdict). Replies (bytes ++ (take used piece ++ rest)) w) (after-append got gained v)
+            (h.reads (take used piece ++ rest) (after gained v) (t.goes.moves.reads rest v x)));
+        ready = t.goes.moves.ready;
+        unfinished = n;
+      } in
+      let taken : HasTaken (view_of Reading g) (bytes ++ take (length piece) piece) (got ++ gained) =
+      subst (λ (k : ℕ). HasTaken (view_of Reading g) (bytes ++ take k piece) (got ++ gained)) all some in
+      let fed : HasFed (view_of Reading g) (bytes ++ piece) (got ++ gained) =
+      subst (λ (l : List ℕ). HasTaken (view_of Reading g) (bytes ++ l) (got ++ gained)) (take_all piece) taken in
+      record {
+        grows = record {
           within = subst (λ (k : ℕ). k ≤ length piece) all t.goes.within;
           gained = gained;
           grows = t.goes.grows;
-          fed = subst (λ (k : ℕ). HasTaken (view_of Reading g) (bytes ++ take k piece) (got ++ gained)) all (record {
-            reads = λ rest v x.
-                subst (λ (l : List ℕ). Replies l (after (got ++ gained) v)) (sym (append_assoc bytes (take used piece) rest))
-                (subst (λ (w : Verdict). Replies (bytes ++ (take used piece ++ rest)) w) (after-append got gained v)
-                (h.reads (take used piece ++ rest) (after gained v) (t.goes.moves.reads rest v x)));
-            ready = t.goes.moves.ready;
-            unfinished = n;
-          });
-        },
-        refl,
-      )
+          fed = taken;
+        };
+        reads = refl;
+        stays_open = record {
+          is_cut = open_cut (view_of Reading g) (bytes ++ piece) (got ++ gained) refl fed;
+          begins = λ more body x. open_goes_on (view_of Reading g) (bytes ++ piece) (got ++ gained) more body refl fed x;
+        };
+      }
 
   stop_core : (stop : Stop) → HasTaken (view_of Reading f) bytes got → Feeds f piece items (Err stop) g out
       → ReadsOn (view_of (Over (refusal_at stop)) g) bytes got piece items out (Err (refusal_at stop))
   stop_core (Refused e) h s =
       let decided : (rest : List ℕ) → Replies ((bytes ++ piece) ++ rest) (refused e) =
-      λ rest. subst (λ (l : List ℕ). Replies l (refused e)) (sym (append_assoc bytes piece rest)) (h.reads (piece ++ rest) (refused e) (s rest)) in
-      (refl, λ bad. record { refusal = e; none = begins_none (bytes ++ piece) e decided; decided = decided })
-  stop_core NoMemory h s = (refl, λ bad. absurd (cc))
+      λ rest. subst (λ (l : List ℕ). Replies l (refused e)) (sym (append_assoc bytes piece rest)) (h.reads (piece ++ rest) (refused e) (s.0 rest)) in
+      record { over = refl; decided = λ bad. record { refusal = e; none = begins_none (bytes ++ piece) e decided; decided = decided }; gains = s.1 }
+  stop_core NoMemory h s = record { over = refl; decided = λ bad. absurd (cc); gains = s }
 
   module _ (old : ReplyView) (before end : List ℕ) where
     place_in : (new : ReplyView) (r : Result ReplyFed ReplyRefused) → old ≡ view_of Reading f → before ≡ items → end ≡ out

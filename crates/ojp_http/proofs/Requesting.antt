@@ -11,8 +11,7 @@ use Rattle.ojp_http.specs.declared.machine.Framing.{Framing}
 use Rattle.ojp_http.specs.declared.machine.Stop.{Stop}
 use Rattle.ojp_http.specs.declared.machine.Stop.TheVariants.{Refused, NoMemory}
 use Rattle.ojp_http.specs.Verdicts.{whole, refused, cut}
-use Rattle.ojp_http.specs.Asking.{Allows, http_refusal}
-use Rattle.ojp_outside.specs.Known.{LosesPrefix}
+use Rattle.ojp_http.specs.Asking.{Allows, http_refusal, ReadsNoFurther}
 use Rattle.ojp_http.specs.Bodies.{Asks}
 use Rattle.ojp_http.specs.Stops.{refusal_by}
 use Rattle.ojp_http.specs.Machine.{ReadsAt, Reads, IsNewRequest, work_at, room_at, limit_at, SpendsBy, Moves, Took, Feeds, is_whole_at}
@@ -28,7 +27,7 @@ pub record HasRead (old now : Option (List ℕ)) (f : Framing) (body : List ℕ)
   pub consumed : Consumes old now seen
   pub moves : Moves start f seen body
   pub unfinished : is_whole_at f.place ≡ false
-  pub later : before ≤ count
+  pub at_rest : count ≡ before
 
 pub HasRead-start : (old : Option (List ℕ)) (f : Framing) (body : List ℕ) (count : ℕ) → IsNewRequest f → f.room ≡ Some 1048576 → f.place ≡ Head → body ≡ [] → HasRead old old f body count count
 HasRead-start old f body count n r p b = record {
@@ -40,7 +39,7 @@ HasRead-start old f body count n r p b = record {
   consumed = Consumes-nil old;
   moves = subst (Moves f f []) (sym b) (Moves-none f n.ready);
   unfinished = ap is_whole_at p;
-  later = omega arith;
+  at_rest = refl;
 }
 
 take_length : (l : List ℕ) → take (length l) l ≡ l
@@ -53,7 +52,7 @@ module _ (old mid now : Option (List ℕ)) (f g : Framing) (piece body got : Lis
   all_moves : (h : HasRead old mid f body before count) → Took f g piece body got used → Moves h.start g (h.seen ++ take used piece) got
   all_moves h t = subst (Moves h.start g (h.seen ++ take used piece)) (sym t.goes.grows) (Moves-then h.start f g h.seen (take used piece) body t.goes.gained h.moves t.goes.moves)
 
-  pub HasRead-more : HasRead old mid f body before count → Consumes mid now piece → Took f g piece body got used → is_whole_at g.place ≡ false → count ≤ count' → HasRead old now g got before count'
+  pub HasRead-more : HasRead old mid f body before count → Consumes mid now piece → Took f g piece body got used → is_whole_at g.place ≡ false → count' ≡ count → HasRead old now g got before count'
   HasRead-more h c t n le =
       let all : take used piece ≡ piece = ap (λ (k : ℕ). take k piece) (t.all (λ w. let e : true ≡ false = ap is_whole_at (sym w) ∙ n in cc)) ∙ take_length piece in
       record {
@@ -65,7 +64,7 @@ module _ (old mid now : Option (List ℕ)) (f g : Framing) (piece body got : Lis
         consumed = Consumes-trans old mid now h.seen piece h.consumed c;
         moves = subst (λ (l : List ℕ). Moves h.start g (h.seen ++ l) got) all (all_moves h t);
         unfinished = n;
-        later = let x = h.later in omega arith;
+        at_rest = le ∙ h.at_rest;
       }
 
   -- a whole request
@@ -133,7 +132,7 @@ module _ (old mid now : Option (List ℕ)) (f g : Framing) (piece body got : Lis
           let all : h.seen ++ (piece ++ last) ≡ bytes = ap (λ (l : List ℕ). h.seen ++ l) (sym y) ∙ sym x in
           record {
             verdict = refused e;
-            asks = subst (λ (l : List ℕ). Asks l (refused e)) all (h.new.reads (h.seen ++ (piece ++ last)) (refused e) (h.moves.reads (piece ++ last) (refused e) (s last)));
+            asks = subst (λ (l : List ℕ). Asks l (refused e)) all (h.new.reads (h.seen ++ (piece ++ last)) (refused e) (h.moves.reads (piece ++ last) (refused e) (s.0 last)));
             tells = refl;
           }
 
@@ -142,12 +141,23 @@ pub allows_fault : (old : Option (List ℕ)) → Allows old (Err answers.ReadFau
 allows_fault None = tt
 allows_fault (Some bytes) = λ n _. absurd (n refl)
 
--- what was read is a prefix
-pub has_lost : (old mid now : Option (List ℕ)) (f : Framing) (body piece : List ℕ) (before count : ℕ) → HasRead old mid f body before count → Consumes mid now piece → LosesPrefix old now
-has_lost old mid now f body piece before count h c = (h.seen ++ piece, Consumes-trans old mid now h.seen piece h.consumed c)
+-- the bytes before the last piece are cut
+pub stops_behind : (old mid now : Option (List ℕ)) (f : Framing) (body piece : List ℕ) (before count : ℕ) → HasRead old mid f body before count → Consumes mid now piece → length piece ≤ 8192
+    → ReadsNoFurther old now
+stops_behind old mid now f body piece before count h c le = record {
+  front = h.seen;
+  last = piece;
+  taken = Consumes-trans old mid now h.seen piece h.consumed c;
+  undecided = record {
+    verdict = cut (body ++ []);
+    asks = subst (λ (l : List ℕ). Asks l (cut (body ++ []))) (append-nil h.seen) (h.new.reads (h.seen ++ []) (cut (body ++ [])) (h.moves.reads [] (cut []) (cut_here f h.moves.ready h.unfinished)));
+    tells = refl;
+  };
+  within = le;
+}
 
-pub has_kept : (old mid now : Option (List ℕ)) (f : Framing) (body : List ℕ) (before count : ℕ) → HasRead old mid f body before count → Keeps mid now → LosesPrefix old now
-has_kept old mid now f body before count h k = (h.seen, Consumes-kept old mid now h.seen h.consumed k)
+pub stops_here : (old mid now : Option (List ℕ)) (f : Framing) (body : List ℕ) (before count : ℕ) → HasRead old mid f body before count → Keeps mid now → ReadsNoFurther old now
+stops_here old mid now f body before count h k = stops_behind old mid now f body [] before count h (Consumes-kept mid mid now [] (Consumes-nil mid) k) (omega arith)
 
 -- ---- the most bytes that may still be taken
 

@@ -418,8 +418,8 @@ one_step old new piece before b rest e (Ok u) m =
       grows = sym (append-nil before);
       moves = subst (λ (l : List ℕ). Moves old new l []) (sym front) m;
     }
-one_step old new piece before b rest e (Err (Refused q)) m = λ more. subst (λ (l : List ℕ). Reads old (l ++ more) (refused q)) (sym e) (m (rest ++ more))
-one_step old new piece before b rest e (Err NoMemory) m = tt
+one_step old new piece before b rest e (Err (Refused q)) m = (λ more. subst (λ (l : List ℕ). Reads old (l ++ more) (refused q)) (sym e) (m (rest ++ more)), refl)
+one_step old new piece before b rest e (Err NoMemory) m = refl
 
 -- the first byte and the rest
 pub first_byte : (piece : List ℕ) → 0 < length piece → piece ≡ get_or piece 0 0 ∷ drop 1 piece

@@ -165,7 +165,7 @@ frames_extend room (Counted n) = takes_extend n Ends ends_extend
 frames_extend room Chunked = λ bytes more body rest x. record { lines = x.lines; reads = lines_extend x.lines room bytes more body rest x.reads }
 frames_extend room (Refused e) = λ bytes more body rest x. absurd (not_refused x)
 
-replies_extend : Extends Replies
+pub replies_extend : Extends Replies
 replies_extend =
     begins_extend ReadsResponse (λ (h : ResponseHead). h.fields) 66 refusals.Head refusals.TooLargeHead (λ h. Frames None (reply_frame h)) (λ h. frames_extend None (reply_frame h))
 

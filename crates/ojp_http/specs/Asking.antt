@@ -1,5 +1,6 @@
 -- The outcome of a request over all its bytes, and whole replies.
-use Rattle.std.specs.Prelude.{◌≡◌, ◌≢◌, ℕ, List, [], Result, Ok, Err, Option, None, Some}
+use Rattle.std.specs.Prelude.{◌≡◌, ◌≢◌, ℕ, ◌≤◌, List, [], ◌++◌, length, Result, Ok, Err, Option, None, Some}
+use Rattle.std.specs.Io.KnownBytes.{Consumes}
 use Rattle.ojp_http.specs.declared.refusal.Refusal.{Refusal}
 use Rattle.ojp_http.specs.declared.refusal.Refusal.TheVariants as decided
 use Rattle.ojp_http.specs.declared.refusal.HttpRefusal.{HttpRefusal}
@@ -40,3 +41,11 @@ HttpReply bytes body = Replies bytes (whole body [])
 abbrev pub Allows : Option (List ℕ) → Result (List ℕ) HttpRefusal → Type 0
 Allows None r = Unit {0}
 Allows (Some bytes) r = r ≢ Err refusals.ReadFault → r ≢ Err refusals.NoMemory → HttpAsk bytes r
+
+-- no bytes were read behind the piece that decides: those before it, if the input ended there, would be cut
+pub record ReadsNoFurther (old new : Option (List ℕ)) : Type 0 where
+  pub front : List ℕ
+  pub last : List ℕ
+  pub taken : Consumes old new (front ++ last)
+  pub undecided : HttpAsk front (Err refusals.Cut)
+  pub within : length last ≤ 8192

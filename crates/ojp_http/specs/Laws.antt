@@ -1,12 +1,15 @@
 -- Laws of whole messages: where two outcomes are allowed, and that no reply begins another.
-use Rattle.std.specs.Prelude.{◌≡◌, ◌⊎◌, ℕ, List, [], ◌∷◌, ◌++◌, Result, Err}
-use Rattle.httparse.specs.Grammar.{RequestHead, ReadsRequest}
+use Rattle.std.specs.Prelude.{◌≡◌, ◌≢◌, ◌≤◌, ◌<◌, ◌^◌, ◌⊎◌, IsTrue, ℕ, List, [], ◌∷◌, ◌++◌, length, Result, Ok, Err}
+use Rattle.httparse.specs.Grammar.{RequestHead, ReadsRequest, AllPass, is_value_byte}
 use Rattle.ojp_http.specs.declared.refusal.HttpRefusal.{HttpRefusal}
 use Rattle.ojp_http.specs.declared.refusal.HttpRefusal.TheVariants as refusals
 use Rattle.ojp_http.specs.Verdicts.{Verdict, whole}
 use Rattle.ojp_http.specs.Heads.{HasNoHead, IsMalformed, IsFull}
 use Rattle.ojp_http.specs.Bodies.{Asks, ReadsTrailer}
 use Rattle.ojp_http.specs.Asking.{HttpAsk, HttpReply}
+use Rattle.ojp_http.specs.Replying.{BeginsNoReply}
+use Rattle.ojp_http.specs.Responses.{is_answer_status, request_bytes}
+use Rattle.ojp_http.specs.Serving.{response}
 
 -- of two values the one is a and the other b
 abbrev pub AreTwo : {A : Type 0} → A → A → A → A → Type 0
@@ -45,3 +48,28 @@ OneBody = (bytes x y : List ℕ) → HttpReply bytes x → HttpReply bytes y →
 -- no whole reply begins a longer one
 abbrev pub NoReplyBeginsAnother : Type 0
 NoReplyBeginsAnother = (bytes more x y : List ℕ) → HttpReply bytes x → HttpReply (bytes ++ more) y → more ≡ []
+
+-- where the bytes give a body, nothing else is allowed
+abbrev pub BodyIsOnly : Type 0
+BodyIsOnly = (bytes body : List ℕ) (outcome : Result (List ℕ) HttpRefusal) → HttpAsk bytes (Ok body) → HttpAsk bytes outcome → outcome ≡ Ok body
+
+-- a response of status 200 is a whole reply, and its text the body
+abbrev pub AnswerIsReply : Type 0
+AnswerIsReply = (text : List ℕ) → length text < 2 ^ 64 → HttpReply (response 200 text) text
+
+-- no reply begins with a response of another status
+abbrev pub OthersAreRefused : Type 0
+OthersAreRefused = (status : ℕ) (text : List ℕ) → IsTrue (is_answer_status status) → status ≢ 200 → length text < 2 ^ 64 → BeginsNoReply (response status text)
+
+-- a text that may stand in the field Host: at most 8,192 bytes, none of them a control byte
+pub record IsHostText (host : List ℕ) : Type 0 where
+  pub plain : AllPass is_value_byte host
+  pub within : length host ≤ 8192
+
+-- the bytes of a request give its body, and nothing else
+pub record GivesOnly (bytes body : List ℕ) : Type 0 where
+  pub gives : HttpAsk bytes (Ok body)
+  pub only : (outcome : Result (List ℕ) HttpRefusal) → HttpAsk bytes outcome → outcome ≡ Ok body
+
+abbrev pub RequestIsAsk : Type 0
+RequestIsAsk = (host body : List ℕ) → IsHostText host → length body ≤ 1048576 → GivesOnly (request_bytes host body) body

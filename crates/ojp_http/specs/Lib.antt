@@ -12,3 +12,6 @@ pub mod Responses
 pub mod Serving
 pub mod Stops
 pub mod Verdicts
+pub mod Continued
+pub mod Few
+pub mod Connections

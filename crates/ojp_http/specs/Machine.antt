@@ -6,6 +6,7 @@ use Rattle.ojp_http.specs.declared.machine.Place.TheVariants.{Head, ReplyHead, C
 use Rattle.ojp_http.specs.declared.machine.Framing.{Framing}
 use Rattle.ojp_http.specs.declared.machine.Stop.{Stop}
 use Rattle.ojp_http.specs.declared.machine.Stop.TheVariants.{Refused, NoMemory}
+use Rattle.ojp_http.specs.declared.refusal.Refusal.{Refusal}
 use Rattle.ojp_http.specs.declared.refusal.Frame.{Frame}
 use Rattle.ojp_http.specs.declared.refusal.Frame.TheVariants.{Counted, Chunked}
 use Rattle.ojp_http.specs.declared.refusal.Frame.TheVariants as frames
@@ -185,10 +186,14 @@ pub record Advances (old new : Framing) (piece before got : List ℕ) (n : ℕ) 
   pub grows : got ≡ before ++ gained
   pub moves : Moves old new (take n piece) gained
 
+-- however the rest reads, all was refused for this
+abbrev pub Refuses : Framing → List ℕ → Refusal → Type 0
+Refuses old piece e = (rest : List ℕ) → Reads old (piece ++ rest) (refused e)
+
 abbrev pub Steps : Framing → List ℕ → List ℕ → Result ℕ Stop → Framing → List ℕ → Type 0
 Steps old piece before (Ok n) new got = Advances old new piece before got n
-Steps old piece before (Err (Refused e)) new got = (rest : List ℕ) → Reads old (piece ++ rest) (refused e)
-Steps old piece before (Err NoMemory) new got = Unit {0}
+Steps old piece before (Err (Refused e)) new got = Refuses old piece e × (got ≡ before)
+Steps old piece before (Err NoMemory) new got = got ≡ before
 
 -- so many bytes of the piece were taken
 pub record Goes (old new : Framing) (piece before got : List ℕ) (used : ℕ) : Type 0 where
@@ -202,10 +207,14 @@ pub record Took (old new : Framing) (piece before got : List ℕ) (used : ℕ) :
   pub goes : Goes old new piece before got used
   pub all : new.place ≢ Whole → used ≡ length piece
 
+-- some bytes of the body came behind those before
+abbrev pub Gains : List ℕ → List ℕ → Type 0
+Gains before got = (gained : List ℕ) × (got ≡ before ++ gained)
+
 abbrev pub Feeds : Framing → List ℕ → List ℕ → Result ℕ Stop → Framing → List ℕ → Type 0
 Feeds old piece before (Ok used) new got = Took old new piece before got used
-Feeds old piece before (Err (Refused e)) new got = (rest : List ℕ) → Reads old (piece ++ rest) (refused e)
-Feeds old piece before (Err NoMemory) new got = Unit {0}
+Feeds old piece before (Err (Refused e)) new got = Refuses old piece e × Gains before got
+Feeds old piece before (Err NoMemory) new got = Gains before got
 
 -- the machine before the first byte of a request
 pub record IsNewRequest (f : Framing) : Type 0 where

@@ -11,10 +11,10 @@ use Rattle.ojp_http.specs.declared.machine.Place.{Place}
 use Rattle.ojp_http.specs.declared.machine.Stop.{Stop}
 use Rattle.ojp_http.specs.declared.machine.Stop.TheVariants.{Refused, NoMemory}
 use Rattle.ojp_http.specs.declared.scan.Scan.{Scan}
-use Rattle.ojp_http.specs.Verdicts.{Verdict, refused, after}
+use Rattle.ojp_http.specs.Verdicts.{Verdict, refused, cut, after}
 use Rattle.ojp_http.specs.Bodies.{Replies}
 use Rattle.ojp_http.specs.Asking.{HttpReply}
-use Rattle.ojp_http.specs.Machine.{ReadsAt, IsOpenAt, is_whole_at}
+use Rattle.ojp_http.specs.Machine.{ReadsAt, IsOpenAt, is_whole_at, Gains}
 
 -- a reply that is read: its stage, and where its framing stands
 pub record ReplyView : Type 0 where
@@ -62,11 +62,29 @@ pub record Grows (new : ReplyView) (bytes got piece before after : List ℕ) (us
   pub grows : after ≡ before ++ gained
   pub fed : HasFed new (bytes ++ take used piece) (got ++ gained)
 
--- a reply goes on, where all bytes would be cut if they ended here; or it ends within the piece; or the bytes decide a refusal
+-- the bytes would be cut if they ended here, so that no front of them is a whole reply, and the body of each reply that they
+-- begin begins with what came of it
+pub record StaysOpen (bytes got : List ℕ) : Type 0 where
+  pub is_cut : Replies bytes (cut got)
+  pub begins : (more body : List ℕ) → HttpReply (bytes ++ more) body → (tail : List ℕ) × (body ≡ got ++ tail)
+
+-- a reply goes on with the whole piece
+pub record Continues (new : ReplyView) (bytes got piece before after : List ℕ) : Type 0 where
+  pub grows : Grows new bytes got piece before after (length piece)
+  pub reads : new.stage ≡ Reading
+  pub stays_open : StaysOpen (bytes ++ piece) (got ++ grows.gained)
+
+-- the bytes decide a refusal, unless memory ran out; what came of the body stands behind what was there
+pub record Stops (new : ReplyView) (bytes piece before after : List ℕ) (e : ReplyRefused) : Type 0 where
+  pub over : new.stage ≡ Over e
+  pub decided : e ≡ refused_as.Bad → IsRefused (bytes ++ piece)
+  pub gains : Gains before after
+
+-- a reply goes on, or it ends within the piece, or it stops
 abbrev pub ReadsOn : ReplyView → List ℕ → List ℕ → List ℕ → List ℕ → List ℕ → Result ReplyFed ReplyRefused → Type 0
-ReadsOn new bytes got piece before after (Ok fed.More) = Grows new bytes got piece before after (length piece) × (new.stage ≡ Reading)
+ReadsOn new bytes got piece before after (Ok fed.More) = Continues new bytes got piece before after
 ReadsOn new bytes got piece before after (Ok (fed.Whole used)) = Grows new bytes got piece before after used × (new.stage ≡ Whole)
-ReadsOn new bytes got piece before after (Err e) = (new.stage ≡ Over e) × (e ≡ refused_as.Bad → IsRefused (bytes ++ piece))
+ReadsOn new bytes got piece before after (Err e) = Stops new bytes piece before after e
 
 -- after a whole reply an empty piece is whole again; another is bad, and no reply begins with all bytes
 abbrev pub EndsAfter : ReplyView → List ℕ → List ℕ → Result ReplyFed ReplyRefused → Type 0

@@ -45,13 +45,17 @@ response status text = response_head status (length text) ++ text
 abbrev pub refusal_response : HttpRefusal → List ℕ
 refusal_response e = response (refusal_status e) (refusal_name e ++ 10 ∷ [])
 
--- the response to an outcome, where Answers relates bodies to statuses and texts
-abbrev pub RespondsTo : (List ℕ → ℕ → List ℕ → Type 0) → Result (List ℕ) HttpRefusal → List ℕ → Type 0
-RespondsTo Answers (Ok body) out = (status : ℕ) × (text : List ℕ) × Answers body status text × (out ≡ response status text)
-RespondsTo Answers (Err e) out = out ≡ refusal_response e
+-- the response to an outcome with its status, where Answers relates bodies to statuses and texts
+abbrev pub RespondsWith : (List ℕ → ℕ → List ℕ → Type 0) → Result (List ℕ) HttpRefusal → ℕ → List ℕ → Type 0
+RespondsWith Answers (Ok body) status out = (text : List ℕ) × Answers body status text × (out ≡ response status text)
+RespondsWith Answers (Err e) status out = (status ≡ refusal_status e) × (out ≡ refusal_response e)
 
--- the response that serves these bytes
-pub record ServedBy (Answers : List ℕ → ℕ → List ℕ → Type 0) (bytes out : List ℕ) : Type 0 where
+-- the response of this status that serves these bytes
+pub record ServedAs (Answers : List ℕ → ℕ → List ℕ → Type 0) (bytes : List ℕ) (status : ℕ) (out : List ℕ) : Type 0 where
   pub outcome : Result (List ℕ) HttpRefusal
   pub allowed : HttpAsk bytes outcome
-  pub responds : RespondsTo Answers outcome out
+  pub responds : RespondsWith Answers outcome status out
+
+-- the response that serves these bytes
+abbrev pub ServedBy : (List ℕ → ℕ → List ℕ → Type 0) → List ℕ → List ℕ → Type 0
+ServedBy Answers bytes out = (status : ℕ) × ServedAs Answers bytes status out

@@ -1,9 +1,8 @@
 //! Requests: reading one, and the bytes of one.
-ghost use Rattle.std.specs.Prelude.{◌≡◌, ◌≤◌, ◌++◌, IfOk, Err, length};
+ghost use Rattle.std.specs.Prelude.{◌≡◌, ◌≢◌, ◌≤◌, ◌++◌, IfOk, Err, length};
 ghost use Rattle.std.specs.List.{flat_map};
 ghost use Rattle.ojp_outside.specs.Causes.{Rose};
-ghost use Rattle.ojp_outside.specs.Known.{LosesPrefix};
-ghost use Rattle.ojp_http.specs.Asking.{Allows};
+ghost use Rattle.ojp_http.specs.Asking.{Allows, ReadsNoFurther};
 ghost use Rattle.ojp_http.specs.Responses.{request_bytes};
 ghost use Rattle.ojp_http.specs.Stops.{refusal_by};
 
@@ -38,8 +37,8 @@ fn refusal_of(stop: Stop) -> HttpRefusal
     }
 }
 
-/// Reads a request, and gives its body, which has at most 1,048,576 bytes. Bytes behind the request may
-/// be read too.
+/// Reads a request, and gives its body, which has at most 1,048,576 bytes. Of the bytes behind the
+/// request only those may be read that come in one piece with its end.
 ///
 /// # Errors
 ///
@@ -47,9 +46,10 @@ fn refusal_of(stop: Stop) -> HttpRefusal
 /// in whatever pieces they come.
 pub fn read_request<I: Source>(alloc: Global, input: &mut I) -> Result<List<u8>, HttpRefusal>
     ensures allowed { Allows (I.left input.old) result }
-    ensures taken { LosesPrefix (I.left input.old) (I.left input.new) }
+    ensures taken { ReadsNoFurther (I.left input.old) (I.left input.new) }
     ensures most { IfOk result (λ body. length body ≤ 1048576) }
     ensures later { I.faults input.old ≤ I.faults input.new }
+    ensures at_rest { result ≢ Err HttpRefusal.ReadFault → I.faults input.new ≡ I.faults input.old }
     ensures fault { result ≡ Err HttpRefusal.ReadFault → Rose (I.faults input.old) (I.faults input.new) }
 {
     let mut framing = Framing::request(alloc);

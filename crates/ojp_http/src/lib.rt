@@ -15,12 +15,12 @@ mod reply;
 mod scan;
 mod served;
 
-pub use answer::{write_no_memory, write_response_head};
+pub use answer::{write_no_memory, write_refusal, write_response, write_response_head};
 pub use ask::{read_request, request};
 pub use fed::{ReplyFed, ReplyRefused};
 pub use refusal::HttpRefusal;
 pub use reply::Reply;
-pub use served::Served;
+pub use served::{Served, give_up, refuse, respond};
 
 #[cfg(test)]
 mod tests;

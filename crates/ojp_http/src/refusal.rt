@@ -47,11 +47,12 @@ pub enum HttpRefusal {
 }
 
 impl HttpRefusal {
-    ghost use Rattle.std.specs.Prelude.{◌≡◌};
+    ghost use Rattle.std.specs.Prelude.{◌≡◌, ◌≢◌};
     ghost use Rattle.ojp_http.specs.Serving.{refusal_status, refusal_name};
 
-    /// The status that answers it; 0 for a failed read, which is not answered.
+    /// The status that answers it; a failed read is not answered.
     pub fn status(self) -> u16
+        requires { self ≢ HttpRefusal.ReadFault }
         ensures { result ≡ refusal_status self }
     {
         match self {
@@ -66,7 +67,7 @@ impl HttpRefusal {
             HttpRefusal::TooLong => 413,
             HttpRefusal::Chunk => 400,
             HttpRefusal::Cut => 400,
-            HttpRefusal::ReadFault => 0,
+            HttpRefusal::ReadFault => unreachable!(),
             HttpRefusal::NoMemory => 503,
         }
     }

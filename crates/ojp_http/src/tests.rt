@@ -3,9 +3,9 @@ ghost use Rattle.std.specs.Prelude.{◌<◌};
 
 use crate::{
     HttpRefusal, Reply, ReplyFed, ReplyRefused, read_request, request, write_no_memory,
-    write_response_head,
+    write_refusal, write_response, write_response_head,
 };
-use ojp_outside::{MemSink, MemSource, put_parts};
+use ojp_outside::{MemSink, MemSource, WriteFault};
 use ojp_values::List;
 use std::alloc::{AllocError, Global};
 use std::test::Fail;
@@ -41,7 +41,17 @@ fn refused_heads(rt: HostRuntime) -> Result<(), Fail> {
             HttpRefusal::Head,
         ),
         ("GET /ojp HTTP/1.1\r\nHost: a\r\n\r\n", HttpRefusal::Method),
+        ("GET /x HTTP/1.1\r\n\r\n", HttpRefusal::Method),
         ("POST /x HTTP/1.1\r\nHost: a\r\n\r\n", HttpRefusal::Target),
+        ("POST /x HTTP/1.1\r\n\r\n", HttpRefusal::Target),
+        (
+            "POST /ojp HTTP/1.1\r\nHost: a\r\nHost: a\r\nContent-Length: 1\r\nTransfer-Encoding: chunked\r\n\r\n",
+            HttpRefusal::Host,
+        ),
+        (
+            "POST /ojp HTTP/1.1\r\nHost: a\r\nContent-Length: 1\r\nTransfer-Encoding: gzip\r\n\r\n",
+            HttpRefusal::Conflict,
+        ),
         (
             "POST /ojp HTTP/1.1\r\nContent-Length: 0\r\n\r\n",
             HttpRefusal::Host,
@@ -220,9 +230,17 @@ fn the_bytes_of_requests_and_responses(rt: HostRuntime) -> Result<(), Fail> {
         }
         Err(_) => assert!(rt; false),
     }
+    // The head comes in one write: the second one fails, and the head is there.
+    let mut sink = MemSink::new(alloc, Vec::from_slice(alloc, &[2])?);
+    assert_eq!(rt; write_response(200, b"<a/>", &mut sink), Err(WriteFault));
+    let head =
+        b"HTTP/1.1 200 OK\r\nContent-Type: application/xml\r\nContent-Length: 4\r\nConnection: close\r\n\r\n";
+    assert_eq!(rt; sink.written(), head.as_slice());
     let mut sink = MemSink::new(alloc, Vec::new(alloc));
-    write_response_head(HttpRefusal::Method.status(), 7, &mut sink)?;
-    put_parts(&mut sink, &[HttpRefusal::Method.name().as_bytes(), b"\n"])?;
+    write_response_head(200, 4, &mut sink)?;
+    assert_eq!(rt; sink.written(), head.as_slice());
+    let mut sink = MemSink::new(alloc, Vec::new(alloc));
+    write_refusal(HttpRefusal::Method, &mut sink)?;
     let text =
         b"HTTP/1.1 405 Method Not Allowed\r\nAllow: POST\r\nContent-Type: text/plain\r\nContent-Length: 7\r\nConnection: close\r\n\r\nMethod\n";
     assert_eq!(rt; sink.written(), text.as_slice());
