@@ -117,7 +117,7 @@ run_is bytes (Some len) first =
 
 -- ---- fields
 
-pub field_comes : (kind : Kind) (bytes : List ℕ) (len : ℕ) (v : FieldValue) → IsRun bytes (Some len) → Spells kind v (take len bytes) → IsField kind bytes (founds.Field len)
+pub field_comes : (kind : Kind) (bytes : List ℕ) (len : ℕ) (v : FieldValue) → IsRun bytes (Some len) → Spells kind v (take len bytes) → IsField kind bytes (founds.Field len v)
 field_comes kind bytes len v run spelled =
     let count : length (take len bytes) ≡ len = length-take-le len bytes (omega (arith, run.0)) in
     let some : 1 ≤ length (field_text v) = (bare v spelled.is).some in
@@ -125,7 +125,6 @@ field_comes kind bytes len v run spelled =
       omega (arith, run.0),
       omega (arith, some, same, count),
       record {
-        field = v;
         kind_is = spelled.kind_is;
         is = spelled.is;
         parts = sym (take-append-drop len bytes) ∙ ap (λ t. t ++ drop len bytes) (sym spelled.text_is);

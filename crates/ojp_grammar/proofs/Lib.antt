@@ -11,9 +11,11 @@ pub mod Tested
 pub mod Wanted
 pub mod Cuts
 pub mod OneKind
+pub mod Folds
+pub mod Drafts
+pub mod Lengths
 pub mod Runs
-pub mod Built
-pub mod Rebuilt
+pub mod Ended
 pub mod Unique
 pub mod Spellings
 pub mod OnePlace

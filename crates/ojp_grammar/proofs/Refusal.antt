@@ -152,10 +152,3 @@ at_trailing want start bytes front tail means at some = record {
       ];
   stands_for = (stands want start front [] means (at.to [] tt), some);
 }
-
--- a document is whole, and spells the bytes
-pub at_whole : (want : Want) (start : List Syntax) (bytes : List ℕ) (front : List Item) → Means want start → At start bytes front [] [] → (doc : Doc) × IsWanted want doc × Spells doc bytes
-at_whole want start bytes front means at =
-    let P : List Item → Type 0 = λ w. Accepts w start in
-    let d = means.accepted front (subst P (append-nil front) (at.to [] tt)) in
-    (d.doc, d.wanted, at.parts ∙ (append-nil (spell front) ∙ ap spell (sym d.parts)))

@@ -1,21 +1,22 @@
 -- One document for its items.
-use Rattle.std.proofs.Common.{◌≡◌, refl, ℕ, List, [], ◌∷◌, None, inl, inr, sym, ◌∙◌, ap}
+use Rattle.std.proofs.Common.{◌≡◌, refl, ℕ, true, List, [], ◌∷◌, None, inl, inr, sym, ◌∙◌, ap, subst, arith}
+use Rattle.std.specs.Prelude.{◌&&◌, ◌==◌, not}
+use Rattle.std.proofs.lemmas.Bool.{eq-eqb}
 use Rattle.std.specs.List.{AllByRecursion}
 use Rattle.ojp_values.specs.declared.kinds.Kind.{Kind}
 use Rattle.ojp_values.specs.declared.kinds.Kind.TheVariants as kinds
 use Rattle.ojp_values.specs.declared.documents.Doc.{Doc}
 use Rattle.ojp_values.specs.declared.documents.Doc.TheVariants as docs
-use Rattle.ojp_grammar.specs.Items.{Item, spell}
+use Rattle.ojp_grammar.specs.Items.{Item, tag}
 use Rattle.ojp_grammar.specs.Syntax.{Syntax, text, field, both, either, many, Says, put, put_each, Fits, FieldOf, value_of}
 use Rattle.ojp_grammar.specs.Grammar.{REQUEST, DELIVERY, document}
 use Rattle.ojp_grammar.specs.Documents.{request_said, delivery_said, items, IsWell}
-use Rattle.ojp_grammar.specs.Steps.{wants, IsPlain}
-use Rattle.ojp_grammar.specs.Building.{starts}
+use Rattle.ojp_grammar.specs.Steps.{begins, wants, IsPlain}
 use Rattle.ojp_grammar.specs.Reached.{start_of}
 use Rattle.ojp_grammar.specs.Laws.{OneSpelling}
 use Rattle.ojp_grammar.specs.declared.refusals.Want.TheVariants.{Request, Delivery}
 use Rattle.ojp_grammar.proofs.Words.{AreApart}
-use Rattle.ojp_grammar.proofs.Built.{put_starts, start_apart}
+use Rattle.ojp_grammar.proofs.Tests.{or_left, or_right, and_both, not_zero, zero_is}
 use Rattle.ojp_grammar.proofs.Unique.{one_front}
 use Rattle.ojp_grammar.proofs.Wanted.{wanted_plain, start_means, ask_again, reply_again}
 
@@ -36,11 +37,41 @@ held_same kinds.EventKind x y e = cc
 abbrev IsOne : Syntax → Type 0
 IsOne s = (v w : Says s) (r q : List Item) → Fits s v → Fits s w → put s v r ≡ put s w q → (v ≡ w) × (r ≡ q)
 
+-- what is said begins with a text that the shape may begin with
+first_text : (s : Syntax) (v : Says s) (rest : List Item) → IsPlain s → wants s ≡ None → Fits s v → (n : ℕ) × (w : List Item) × (put s v rest ≡ tag n ∷ w) × (begins n s ≡ true)
+first_text (text n) v rest p none f = (n, rest, refl, eq-eqb n n refl)
+first_text (field kind c) v rest p none f = absurd cc
+first_text (both a b) v rest p none f = first_text a v.0 (put b v.1 rest) p.0 none f.0
+first_text (either a b) (inl v) rest p none f =
+    let t = first_text a v rest p.0 p.2 f in (t.0, t.1, t.2, or_left (begins t.0 a) (begins t.0 b) t.3)
+first_text (either a b) (inr v) rest p none f =
+    let t = first_text b v rest p.1 p.3 f in (t.0, t.1, t.2, or_right (begins t.0 a) (begins t.0 b) t.3)
+first_text (many low high a b) ([], v) rest p none f =
+    let t = first_text b v rest p.1 p.3 f.3 in (
+      t.0,
+      t.1,
+      t.2,
+      or_left (low == 0 && begins t.0 b) (not (high == 0) && begins t.0 a)
+          (and_both (low == 0) (begins t.0 b) (zero_is low (omega (arith, f.0))) t.3),
+    )
+first_text (many low high a b) (x ∷ xs, v) rest p none f =
+    let t = first_text a x (put_each (put a) xs (put b v rest)) p.0 p.2 f.2.0 in (
+      t.0,
+      t.1,
+      t.2,
+      or_right (low == 0 && begins t.0 b) (not (high == 0) && begins t.0 a)
+          (and_both (not (high == 0)) (begins t.0 a) (not_zero high (omega (arith, f.1))) t.3),
+    )
+
 -- no items say something of two shapes that are apart
 apart_items : (a b : Syntax) → IsPlain a → IsPlain b → wants a ≡ None → wants b ≡ None → AreApart a b → (v : Says a) (w : Says b) (r q : List Item) → Fits a v → Fits b w → put a v r ≡ put b w q → ⊥
 apart_items a b p q none_a none_b apart v w r t f g e =
-    start_apart a b (spell (put a v r)) p q apart (put_starts a v r p none_a f)
-    (ap (λ l. starts b (spell l)) e ∙ put_starts b w t q none_b g)
+    let x = first_text a v r p none_a f in
+    let y = first_text b w t q none_b g in
+    let both_first : tag x.0 ∷ x.1 ≡ tag y.0 ∷ y.1 = sym x.2 ∙ (e ∙ y.2) in
+    let same : x.0 ≡ y.0 = cc in
+    let P : ℕ → Type 0 = λ n. begins n a ≡ true in
+    apart y.0 (subst P same x.3) y.3
 
 one_text : (n : ℕ) → IsOne (text n)
 one_text n v w r q f g e = (refl, cc)

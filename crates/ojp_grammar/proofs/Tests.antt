@@ -1,7 +1,7 @@
 -- Tests that are true or false.
 use Rattle.std.proofs.Common.{◌≡◌, refl, ℕ, zero, suc, Bool, true, false, ◌⊎◌, inl, inr, ◌<◌, arith}
 use Rattle.std.proofs.lemmas.Bool.{eq-eqb, eqb-true}
-use Rattle.std.specs.Prelude.{if◌then◌else◌, ◌||◌, ◌&&◌, ◌==◌, not}
+use Rattle.std.specs.Prelude.{◌||◌, ◌&&◌, ◌==◌, not}
 
 pub either_way : (b : Bool) → (b ≡ true) ⊎ (b ≡ false)
 either_way true = inl refl
@@ -34,11 +34,6 @@ and_left false b h = cc
 pub and_right : (a b : Bool) → (a && b) ≡ true → b ≡ true
 and_right true b h = h
 and_right false b h = cc
-
--- a choice by a test has what both branches have
-pub if_both : {A : Type 0} (P : A → Type 0) (b : Bool) (x y : A) → P x → P y → P (if b then x else y)
-if_both P true x y p q = p
-if_both P false x y p q = q
 
 pub not_zero : (n : ℕ) → 0 < n → not (n == 0) ≡ true
 not_zero n h =

@@ -1,5 +1,5 @@
 -- Laws of the documents.
-use Rattle.std.specs.Prelude.{◌≡◌, ◌≢◌, ℕ, List, [], ◌++◌, length}
+use Rattle.std.specs.Prelude.{◌≡◌, ◌≢◌, ℕ, ◌<◌, ◌^◌, List, [], ◌++◌, length}
 use Rattle.ojp_values.specs.declared.documents.Doc.{Doc}
 use Rattle.ojp_grammar.specs.declared.refusals.Want.{Want}
 use Rattle.ojp_grammar.specs.declared.refusals.Reason.{Reason}
@@ -32,3 +32,7 @@ OnlyMoreIsRefused =
     (want : Want) (doc : Doc) (more : List ℕ) (at : ℕ) (reason : Reason) → IsWanted want doc
     → IsRefused want (spell (items doc) ++ more) at reason
     → (more ≢ []) × (at ≡ length (spell (items doc))) × (reason ≡ Trailing)
+
+-- a wanted document has fewer than 2^41 bytes
+abbrev pub AreShort : Type 0
+AreShort = (want : Want) (doc : Doc) → IsWanted want doc → length (spell (items doc)) < 2 ^ 41

@@ -4,11 +4,13 @@ pub mod Syntax
 pub mod Grammar
 pub mod Documents
 pub mod Places
-pub mod Building
 pub mod Steps
+pub mod Folding
+pub mod Drafting
 pub mod Machine
-pub mod Parts
-pub mod Running
 pub mod Reached
+pub mod Running
 pub mod Whole
 pub mod Laws
+pub mod Reasons
+pub mod Answering

@@ -1,6 +1,6 @@
 //! Laws of the documents.
 
-ghost use Rattle.ojp_grammar.specs.Laws.{OneSpelling, OnePlace, MoreIsRefused, OnlyMoreIsRefused};
+ghost use Rattle.ojp_grammar.specs.Laws.{OneSpelling, OnePlace, MoreIsRefused, OnlyMoreIsRefused, AreShort};
 
 /// Documents that are spelled at the front of the same bytes are one document, and the same bytes
 /// stand behind it: each document has one spelling, and no spelling begins another.
@@ -18,4 +18,9 @@ pub fn one_place()
 pub fn written_is_read()
     ensures more { MoreIsRefused }
     ensures only { OnlyMoreIsRefused }
+{}
+
+/// No wanted document is long: it has fewer than 2^41 bytes.
+pub fn documents_are_short()
+    ensures { AreShort }
 {}

@@ -5,22 +5,27 @@ ghost use Rattle.std.specs.Prelude.{◌≡◌, ◌∷◌, ◌≤◌, ◌<◌, �
 ghost use Rattle.ojp_grammar.specs.Steps.{syntax_of, stack_of, begins, wants, enter, leave, Sticks, IsPlain, ArePlain};
 ghost use Rattle.ojp_grammar.specs.Places.{IsProperPrefix};
 ghost use Rattle.ojp_grammar.specs.Grammar as grammar;
-ghost use Rattle.ojp_grammar.specs.Machine.{IsFront, IsCut, IsField, Finds, Advances, IsReading, StopsFor, IsRun};
+ghost use Rattle.ojp_grammar.specs.Items.{text};
+ghost use Rattle.ojp_grammar.specs.Machine.{IsFront, IsCut, IsField, Finds, Advances, IsRun};
 
-use crate::cursor::text_of;
-use crate::fields::read_field;
+use crate::draft::Draft;
+use crate::fields::{FieldValue, read_field};
 use crate::refusals::{Reason, Want};
 use crate::shapes::{Shape, delivery, request};
 use memchr::memchr;
+use ojp_tables::markup::markup;
 use ojp_tables::names::{END, HEAD};
+use ojp_values::documents::Doc;
 use ojp_values::kinds::Kind;
+use ojp_values::memory::NoMemory;
 use std::alloc::{AllocError, Global};
 
-/// What stands in front of bytes: a text by its number, a field by its length, or why no item does.
+/// What stands in front of bytes: a text by its number, a field by its length and its value, or why no
+/// item does.
 #[derive(Clone, Copy)]
 pub enum Found {
     Text(u8),
-    Field(usize),
+    Field(usize, FieldValue),
     Stuck(Reason),
 }
 
@@ -33,6 +38,13 @@ pub enum Passed {
 
 /// The longest text of a field, in bytes.
 pub const LONGEST_FIELD: usize = 512;
+
+/// The markup text of a number.
+fn text_of(n: u8) -> &'static [u8]
+    ensures { result.now ≡ text n }
+{
+    if n < 99 { markup().at(n as usize) } else { &[] }
+}
 
 /// The text in front, of those that the shape may begin with.
 fn front(shape: &Shape, bytes: &[u8]) -> Option<u8>
@@ -184,14 +196,14 @@ fn find_text(shape: &Shape, bytes: &[u8]) -> Found
     }
 }
 
-/// The length of the field in front, or why none is there.
+/// The field in front, or why none is there.
 fn find_field(kind: Kind, bytes: &[u8]) -> Found
     ensures { IsField kind bytes.now result }
 {
     match run_length(bytes) {
         Some(len) => {
             match read_field(kind, &bytes[..len]) {
-                Some(_) => Found::Field(len),
+                Some(value) => Found::Field(len, value),
                 None => Found::Stuck(Reason::Field(kind)),
             }
         }
@@ -223,70 +235,128 @@ fn find(shape: &Shape, bytes: &[u8]) -> Found
     }
 }
 
-/// Passes over the item in front and opens what stands behind it: gives its length. Where none comes,
-/// everything stays, and the reason is given.
-fn advance(stack: &mut Vec<Shape>, shape: Shape, bytes: &[u8]) -> Result<Passed, AllocError>
-    requires { IsPlain (syntax_of shape) }
-    ensures { IfOk result (λ passed. Advances (syntax_of shape ∷ stack_of stack.old.items) bytes.now passed (stack_of stack.new.items)) }
-{
-    match find(&shape, bytes) {
-        Found::Text(n) => {
-            open_behind_text(stack, &shape, n)?;
-            Ok(Passed::Item(text_of(n).len()))
-        }
-        Found::Field(len) => {
-            open_behind_field(stack, &shape)?;
-            Ok(Passed::Item(len))
-        }
-        Found::Stuck(reason) => {
-            stack.push(shape)?;
-            Ok(Passed::Nothing(reason))
-        }
-    }
-}
-
 /// Where the reading of a document has come: which documents are wanted, how many bytes are behind it,
-/// and the shapes that are open, of which the last is next.
+/// the shapes that are open, of which the last is next, and the values that were read.
 #[derive(Drop)]
 pub struct Machine {
     pub want: Want,
     pub at: usize,
     pub stack: Vec<Shape>,
+    pub draft: Draft,
+}
+
+/// What a run did: how many bytes it passed over, and why the next item does not come; none where the
+/// document is whole.
+#[derive(Clone, Copy)]
+pub struct Ran {
+    pub took: usize,
+    pub stop: Option<Reason>,
 }
 
 impl Machine {
-    ghost use Rattle.std.specs.Prelude.{◌≡◌, [], ℕ, List, IfOk, MatchOption, drop};
-    ghost use Rattle.ojp_grammar.specs.Steps.{stack_of};
-    ghost use Rattle.ojp_grammar.specs.Machine.{StopsFor};
-    ghost use Rattle.ojp_grammar.specs.Running.{IsAt};
+    ghost use Rattle.std.specs.Prelude.{◌≡◌, ◌+◌, ◌≤◌, [], ◌∷◌, ℕ, List, IfOk, MatchOption, drop, length};
+    ghost use Rattle.ojp_grammar.specs.Steps.{syntax_of, stack_of, IsPlain};
+    ghost use Rattle.ojp_grammar.specs.Machine.{Advances, StopsFor};
+    ghost use Rattle.ojp_grammar.specs.Running.{Stands, IsRead};
 
     /// At the first byte of any bytes.
     pub fn new(alloc: Global, want: Want) -> Result<Machine, AllocError>
         ensures want { IfOk result (λ machine. machine.want ≡ want) }
-        ensures at { IfOk result (λ machine. (bytes : List ℕ) → IsAt machine bytes) }
+        ensures at { IfOk result (λ machine. machine.at ≡ 0) }
+        ensures stands { IfOk result (λ machine. (bytes : List ℕ) → Stands machine bytes bytes) }
     {
         let mut stack = Vec::with_capacity(alloc, 32)?;
         stack.push(Shape::Text(END))?;
         stack.push(content(want))?;
         stack.push(Shape::Text(HEAD))?;
-        Ok(Machine { want, at: 0, stack })
+        Ok(Machine {
+            want,
+            at: 0,
+            stack,
+            draft: Draft::new(alloc),
+        })
     }
 
-    /// Passes over whole items of the bytes as long as they come. Gives the reason why the next does
-    /// not come, or none where the document is whole.
-    pub fn run(&mut self, bytes: &[u8]) -> Result<Option<Reason>, AllocError>
-        requires { IsAt self.old bytes.now }
+    /// Passes over whole items of the bytes as long as they come.
+    ///
+    /// # Errors
+    ///
+    /// Where memory runs out the machine is spent.
+    pub fn run(&mut self, bytes: &[u8]) -> Result<Ran, NoMemory>
+        requires { (fed : List ℕ) × Stands self.old fed bytes.now }
         ensures want { self.new.want ≡ self.old.want }
-        ensures at { IfOk result (λ stop. IsAt self.new bytes.now) }
-        ensures stop { IfOk result (λ stop. MatchOption stop (self.new.stack.items ≡ []) (StopsFor (stack_of self.new.stack.items) (drop self.new.at bytes.now))) }
+        ensures took { IfOk result (λ ran. (ran.took ≤ length bytes.now) × (self.new.at ≡ self.old.at + ran.took)) }
+        ensures stands { IfOk result (λ ran. (fed : List ℕ) → Stands self.old fed bytes.now → Stands self.new fed (drop ran.took bytes.now)) }
+        ensures stop { IfOk result (λ ran. MatchOption ran.stop (self.new.stack.items ≡ []) (StopsFor (stack_of self.new.stack.items) (drop ran.took bytes.now))) }
     {
+        let mut took = 0;
         while let Some(shape) = self.stack.pop() {
-            match advance(&mut self.stack, shape, &bytes[self.at..])? {
-                Passed::Item(len) => self.at += len,
-                Passed::Nothing(reason) => return Ok(Some(reason)),
+            match advance(&mut self.stack, &mut self.draft, shape, &bytes[took..])? {
+                Passed::Item(len) => {
+                    self.at += len;
+                    took += len;
+                }
+                Passed::Nothing(reason) => {
+                    return Ok(Ran {
+                        took,
+                        stop: Some(reason),
+                    });
+                }
             }
         }
-        Ok(None)
+        Ok(Ran { took, stop: None })
+    }
+
+    /// The document that all the bytes spell, where they spell one; takes no memory.
+    pub fn into_document(self) -> Option<Doc>
+        ensures { (fed : List ℕ) → Stands self fed [] → self.stack.items ≡ [] → IsRead self.want fed result }
+    {
+        let Machine {
+            want: _,
+            at: _,
+            stack: _,
+            draft,
+        } = self;
+        draft.into_document()
+    }
+}
+
+/// Passes over the item in front, takes its value and opens what stands behind it: gives its length.
+/// Where none comes, everything stays, and the reason is given.
+fn advance(
+    stack: &mut Vec<Shape>,
+    draft: &mut Draft,
+    shape: Shape,
+    bytes: &[u8],
+) -> Result<Passed, NoMemory>
+    requires { IsPlain (syntax_of shape) }
+    ensures { IfOk result (λ passed. Advances (syntax_of shape ∷ stack_of stack.old.items) draft.old bytes.now passed (stack_of stack.new.items) draft.new) }
+{
+    match find(&shape, bytes) {
+        Found::Text(n) => {
+            let Ok(()) = open_behind_text(stack, &shape, n) else {
+                return Err(NoMemory);
+            };
+            let Ok(()) = draft.take_text(n) else {
+                return Err(NoMemory);
+            };
+            Ok(Passed::Item(text_of(n).len()))
+        }
+        Found::Field(len, value) => {
+            let Ok(()) = open_behind_field(stack, &shape) else {
+                return Err(NoMemory);
+            };
+            let Ok(()) = draft.take_value(value) else {
+                return Err(NoMemory);
+            };
+            Ok(Passed::Item(len))
+        }
+        Found::Stuck(reason) => {
+            let Ok(()) = stack.push(shape) else {
+                return Err(NoMemory);
+            };
+            Ok(Passed::Nothing(reason))
+        }
     }
 }
 

@@ -1,7 +1,9 @@
 //! Whole documents, against bytes that were written by hand.
 
 use super::*;
+use ojp_values::asks::Ask;
 use ojp_values::kinds::Kind;
+use ojp_values::replies::Delivery;
 use std::test::Fail;
 
 fn request_bytes() -> &'static [u8] {

@@ -1,13 +1,17 @@
+use Rattle.std.proofs.Common.{refl}
 use Rattle.ojp_grammar.specs.Steps.{syntax_of, stack_of}
+use Rattle.ojp_grammar.specs.Folding.{push_value}
 use Rattle.ojp_grammar.proofs.Runs.{advances_text, advances_field}
 use Rattle.ojp_grammar.proofs.machine.advance.Goals as goal
 
-pub returns-in_ok-open_behind_text-in-Text : goal.returns-in_ok-open_behind_text-in-Text
-returns-in_ok-open_behind_text-in-Text c =
-    advances_text (syntax_of c.args.shape) (stack_of c.args.stack.now.items) (stack_of c.open_behind_text.new.stack.items) c.args.bytes.now
-    c.text_of.result.now c.in-Text.n c.text_of.ensures c.in-Text.ensures c.in_ok-open_behind_text-in-Text.ensures
+pub returns-in-Ok-take_text : goal.returns-in-Ok-take_text
+returns-in-Ok-take_text c =
+    advances_text (syntax_of c.args.shape) (stack_of c.args.stack.now.items) (stack_of c.open_behind_text.new.stack.items) c.args.draft.now c.take_text.new.self c.args.bytes.now
+    c.text_of.result.now c.in-Text.n c.text_of.ensures c.in-Text.ensures c.in-Ok.ensures
+    (λ w is. c.in-Ok-take_text.ensures w is)
 
-pub returns-in_ok-open_behind_field-in-Field : goal.returns-in_ok-open_behind_field-in-Field
-returns-in_ok-open_behind_field-in-Field c =
-    advances_field (syntax_of c.args.shape) (stack_of c.args.stack.now.items) (stack_of c.open_behind_field.new.stack.items) c.args.bytes.now
-    c.in-Field.len c.in-Field.ensures c.in_ok-open_behind_field-in-Field.ensures
+pub returns-in-Ok-take_value : goal.returns-in-Ok-take_value
+returns-in-Ok-take_value c =
+    advances_field (syntax_of c.args.shape) (stack_of c.args.stack.now.items) (stack_of c.open_behind_field.new.stack.items) c.args.draft.now c.take_value.new.self c.args.bytes.now
+    c.in-Field.len c.in-Field.value c.in-Field.ensures c.in-Ok-open_behind_field.ensures
+    (c.in-Ok-take_value.ensures (push_value c.in-Field.value c.args.draft.now) refl)

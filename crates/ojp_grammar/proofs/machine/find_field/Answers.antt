@@ -3,7 +3,7 @@ use Rattle.ojp_grammar.proofs.machine.find_field.Goals as goal
 
 pub returns-in-Some-read_field : goal.returns-in-Some-read_field
 returns-in-Some-read_field c =
-    field_comes c.args.kind c.args.bytes.now c.in-Some.len c.in-Some-read_field.field-0 c.in-Some.ensures c.in-Some-read_field.ensures
+    field_comes c.args.kind c.args.bytes.now c.in-Some.len c.in-Some-read_field.value c.in-Some.ensures c.in-Some-read_field.ensures
 
 pub returns-in-None-read_field : goal.returns-in-None-read_field
 returns-in-None-read_field c =

@@ -1,18 +1,41 @@
-use Rattle.std.proofs.Common.{◌∙◌}
-use Rattle.ojp_grammar.proofs.Rebuilt.{run_refused, run_trailing, run_whole}
+use Rattle.std.proofs.Common.{◌∙◌, subst, Option}
+use Rattle.ojp_values.specs.declared.documents.Doc.{Doc}
+use Rattle.ojp_grammar.specs.Running.{IsRead}
+use Rattle.ojp_grammar.proofs.Ended.{HasRun, run_stopped, run_read}
 use Rattle.ojp_grammar.proofs.whole.whole.Goals as goal
 
-pub returns-in-Ok-Some-clause-refused : goal.returns-in-Ok-Some-clause-refused
-returns-in-Ok-Some-clause-refused c =
-    run_refused c.args.want c.args.bytes.now c.run.new.self c.in-Ok-Some.reason c.refused.result
-    (c.in-Ok-Some.ensures.want ∙ c.in-Ok.ensures.want) c.in-Ok-Some.ensures.at (rw c.in-Ok-Some.field-0-is at c.in-Ok-Some.ensures.stop) c.refused.ensures
+pub run-ran-requires : goal.run-ran-requires
+run-ran-requires c = (c.args.bytes.now, c.in-Ok.ensures.stands c.args.bytes.now)
 
-pub returns-then-machine-bytes-clause-refused : goal.returns-then-machine-bytes-clause-refused
-returns-then-machine-bytes-clause-refused c =
-    run_trailing c.args.want c.args.bytes.now c.run.new.self c.refused-then-machine-bytes.result
-    (c.in-Ok-None.ensures.want ∙ c.in-Ok.ensures.want) c.in-Ok-None.ensures.at (rw c.in-Ok-None.field-0-is at c.in-Ok-None.ensures.stop) c.if-machine-bytes.true c.refused-then-machine-bytes.ensures
+pub unreachable-requires : goal.unreachable-requires
+unreachable-requires c =
+    let run : HasRun c.args.want c.run-ran.new.self c.args.bytes.now c.in-Ok-ran.ran = record {
+      want_is = c.in-Ok-ran.ensures.want ∙ c.in-Ok.ensures.want;
+      stands = c.in-Ok-ran.ensures.stands c.args.bytes.now (c.in-Ok.ensures.stands c.args.bytes.now);
+      stop = c.in-Ok-ran.ensures.stop;
+    } in
+    let read = run_read c.args.want c.run-ran.new.self c.args.bytes.now c.in-Ok-ran.ran c.into_document-document.result run c.in-None.ensures.0 c.in-None.ensures.1
+    (c.into_document-document.ensures c.args.bytes.now) in
+    let P : Option Doc → Type 0 = IsRead c.args.want c.args.bytes.now in
+    subst P c.in-None-document.is read
 
-pub build-requires : goal.build-requires
-build-requires c =
-    run_whole c.args.want c.args.bytes.now c.run.new.self
-    (c.in-Ok-None.ensures.want ∙ c.in-Ok.ensures.want) c.in-Ok-None.ensures.at (rw c.in-Ok-None.field-0-is at c.in-Ok-None.ensures.stop) c.if-machine-bytes.false
+pub returns-in-Some-clause-refused : goal.returns-in-Some-clause-refused
+returns-in-Some-clause-refused c =
+    let run : HasRun c.args.want c.run-ran.new.self c.args.bytes.now c.in-Ok-ran.ran = record {
+      want_is = c.in-Ok-ran.ensures.want ∙ c.in-Ok.ensures.want;
+      stands = c.in-Ok-ran.ensures.stands c.args.bytes.now (c.in-Ok.ensures.stands c.args.bytes.now);
+      stop = c.in-Ok-ran.ensures.stop;
+    } in
+    run_stopped c.args.want c.run-ran.new.self c.args.bytes.now c.in-Ok-ran.ran c.in-Some.reason c.refused.result run c.in-Some.ensures c.refused.ensures
+
+pub returns-in-Some-document-clause-document : goal.returns-in-Some-document-clause-document
+returns-in-Some-document-clause-document c =
+    let run : HasRun c.args.want c.run-ran.new.self c.args.bytes.now c.in-Ok-ran.ran = record {
+      want_is = c.in-Ok-ran.ensures.want ∙ c.in-Ok.ensures.want;
+      stands = c.in-Ok-ran.ensures.stands c.args.bytes.now (c.in-Ok.ensures.stands c.args.bytes.now);
+      stop = c.in-Ok-ran.ensures.stop;
+    } in
+    let read = run_read c.args.want c.run-ran.new.self c.args.bytes.now c.in-Ok-ran.ran c.into_document-document.result run c.in-None.ensures.0 c.in-None.ensures.1
+    (c.into_document-document.ensures c.args.bytes.now) in
+    let P : Option Doc → Type 0 = IsRead c.args.want c.args.bytes.now in
+    subst P c.in-Some-document.is read
