@@ -1,5 +1,5 @@
 -- What calls wrote one after another.
-use Rattle.std.proofs.Common.{◌≡◌, ℕ, suc, ◌<◌, ◌≤◌, List, [], ◌++◌, length, take, drop, get_or, take-append-drop, drop-cons, Option, Result, Ok, Err, IsErr, sym, subst, ap, ◌∙◌, arith, append-nil, length-append}
+use Rattle.std.proofs.Common.{◌≡◌, ℕ, suc, ◌<◌, ◌≤◌, List, [], ◌++◌, length, take, drop, get_or, take-append-drop, drop-cons, Option, Result, Ok, Err, IsErr, refl, sym, subst, ap, ◌∙◌, arith, append-nil, length-append}
 use Rattle.std.proofs.lemmas.List.{take-append-le}
 use Rattle.std.specs.List.{flat_map}
 use Rattle.std.proofs.lemmas.Grind.{flat_map-append}
@@ -18,7 +18,7 @@ Writes-stopped old new before now a b e (Ok v) w h = absurd (cc)
 Writes-stopped old new before now a b e (Err f) w h = record {
   ok = tt;
   err = (w.err.0, omega (arith, w.err.1, length-append a b), subst (Appends old new) (sym (take-append-le w.err.0 a b w.err.1)) w.err.2);
-  cause = record { later = w.cause.later; failed = w.cause.failed };
+  cause = record { later = w.cause.later; at_rest = tt; failed = w.cause.failed };
 }
 
 rose : (before between now : ℕ) → before ≤ between → Rose between now → Rose before now
@@ -30,12 +30,12 @@ pub Writes-then : (old mid new : Option (List ℕ)) (before between now : ℕ) (
 Writes-then old mid new before between now a b v (Ok u) w x = record {
   ok = Appends-trans old mid new a b w.ok x.ok;
   err = tt;
-  cause = record { later = let h = w.cause.later in let k = x.cause.later in omega arith; failed = tt };
+  cause = record { later = let h = w.cause.later in let k = x.cause.later in omega arith; at_rest = x.cause.at_rest ∙ w.cause.at_rest; failed = tt };
 }
 Writes-then old mid new before between now a b v (Err e) w x = record {
   ok = tt;
   err = subst (AppendsPrefix old new) (ap (λ l. a ++ l) (append-nil b)) (AppendsPrefix-behind old mid new a b [] w.ok x.err);
-  cause = record { later = let h = w.cause.later in let k = x.cause.later in omega arith; failed = rose before between now w.cause.later x.cause.failed };
+  cause = record { later = let h = w.cause.later in let k = x.cause.later in omega arith; at_rest = tt; failed = rose before between now w.cause.later x.cause.failed };
 }
 
 -- nothing was written so far
@@ -43,7 +43,7 @@ pub Writes-none : (old : Option (List ℕ)) (now : ℕ) (v : Unit {0}) → Write
 Writes-none old now v = record {
   ok = Appends-nil old;
   err = tt;
-  cause = record { later = omega arith; failed = tt };
+  cause = record { later = omega arith; at_rest = refl; failed = tt };
 }
 
 -- the same bytes were written
