@@ -1,6 +1,6 @@
 -- What stands at a place stands there whatever follows the bytes.
-use Rattle.std.proofs.Common.{◌≡◌, ◌≢◌, refl, ℕ, List, [], ◌∷◌, ◌++◌, drop, ◌⊎◌, inl, inr, sym, ◌∙◌, ap, subst, arith, append_assoc, length-append}
-use Rattle.std.proofs.lemmas.List.{append-nil, drop-append-le}
+use Rattle.std.proofs.Common.{◌≡◌, ◌≢◌, refl, ℕ, zero, suc, ◌+◌, ◌<◌, ◌≤◌, List, [], ◌∷◌, ◌++◌, length, ◌⊎◌, inl, inr, sym, ◌∙◌, ap, subst, arith, append_assoc, length-append}
+use Rattle.std.proofs.lemmas.List.{append-nil}
 use Rattle.std.proofs.lemmas.List.Elements.{All-from_recursion, recursion_from_All}
 use Rattle.ojp_values.specs.declared.kinds.Kind.{Kind}
 use Rattle.ojp_grammar.specs.declared.fields.FieldValue.{FieldValue}
@@ -8,14 +8,20 @@ use Rattle.ojp_grammar.specs.declared.refusals.Reason.{Reason}
 use Rattle.ojp_grammar.specs.declared.refusals.Reason.TheVariants as reasons
 use Rattle.ojp_grammar.specs.declared.refusals.Want.{Want}
 use Rattle.ojp_grammar.specs.Fields.{kind_of, IsFieldValue, field_text}
-use Rattle.ojp_grammar.specs.Items.{Item, text, spell}
+use Rattle.ojp_grammar.specs.Items.{Item, tag, value, item_text, text, spell}
 use Rattle.ojp_grammar.specs.Syntax.{Syntax}
 use Rattle.ojp_grammar.specs.Places.{BeginsMarkup, IsProperPrefix, IsOpenRun, Run}
-use Rattle.ojp_grammar.specs.Steps.{Sticks}
+use Rattle.ojp_grammar.specs.Steps.{Comes, Sticks, IsPlain}
 use Rattle.ojp_grammar.specs.Reached.{At, start_of}
-use Rattle.ojp_grammar.specs.Machine.{HasNoField, IsReading}
+use Rattle.ojp_grammar.specs.Machine.{HasNoField, StopsFor}
+use Rattle.ojp_grammar.specs.Running.{IsReading}
+use Rattle.ojp_grammar.specs.Folding.{Waiting}
 use Rattle.ojp_grammar.proofs.FieldLaws.{bare}
-use Rattle.ojp_grammar.proofs.Spelled.{opens_more}
+use Rattle.ojp_grammar.proofs.Behind.{spell-append}
+use Rattle.ojp_grammar.proofs.Lengths.{text_short}
+use Rattle.ojp_grammar.proofs.Plain.{begins_small, some_items}
+use Rattle.ojp_grammar.proofs.Progress.{front_next}
+use Rattle.ojp_grammar.proofs.Spelled.{opens_more, sticks_alone}
 
 -- ---- texts
 
@@ -111,12 +117,62 @@ at_more start bytes front k tail more at = record {
 }
 
 -- what was read is read whatever follows
-pub reading_more : (want : Want) (bytes more : List ℕ) (at : ℕ) (k : List Syntax) → IsReading want bytes at k → IsReading want (bytes ++ more) at k
-reading_more want bytes more at k r =
-    let P : List ℕ → Type 0 = At (start_of want) (bytes ++ more) r.front k in
-    record {
-      front = r.front;
-      reached = subst P (sym (drop-append-le at bytes more r.within)) (at_more (start_of want) bytes r.front k (drop at bytes) more r.reached);
-      place = r.place;
-      within = omega (arith, r.within, length-append bytes more);
-    }
+pub reading_more : (want : Want) (at : ℕ) (k : List Syntax) (waiting : Waiting) (bytes tail more : List ℕ) → IsReading want at k waiting bytes tail → IsReading want at k waiting (bytes ++ more) (tail ++ more)
+reading_more want at k waiting bytes tail more r = record {
+  front = r.front;
+  reached = at_more (start_of want) bytes r.front k tail more r.reached;
+  place = r.place;
+  folded = r.folded;
+}
+
+-- ---- an item that was cut
+
+-- an item that comes where it was cut is at least as long as what was there
+cut_long : (s : Syntax) (i : Item) (kept more behind : List ℕ) → IsPlain s → Sticks s kept reasons.Truncated → Comes s i (kept ++ more) behind → length kept ≤ length (item_text i)
+cut_long s i kept more behind plain cut comes = elim (one_goes_on kept (item_text i) more behind (parts_of i comes)) [
+  | inr short ↦ omega (arith, length-append kept short.0, ap length short.1)
+  | inl on ↦ whole i on.more comes on.parts on.left
+]
+  where
+    parts_of : (i : Item) → Comes s i (kept ++ more) behind → kept ++ more ≡ item_text i ++ behind
+    parts_of (tag n) c = c.1
+    parts_of (value v) c = c.2
+
+    whole : (i : Item) (left : List ℕ) → Comes s i (kept ++ more) behind → kept ≡ item_text i ++ left → behind ≡ left ++ more → length kept ≤ length (item_text i)
+    whole i [] c e b = omega (arith, ap length e, length-append (item_text i) [])
+    whole (tag n) (x ∷ left) c e b =
+        absurd (sticks_alone s kept reasons.Truncated (tag n) (x ∷ left) plain cut (c.0, e))
+    whole (value v) (x ∷ left) c e b =
+        let joined : x ∷ (left ++ more) ≡ 60 ∷ c.3.0 = sym b ∙ c.3.1 in
+        let first : x ≡ 60 = cc in
+        absurd (sticks_alone s kept reasons.Truncated (value v) (x ∷ left) plain cut (c.0, c.1, e, (left, ap (λ y. y ∷ left) first)))
+
+-- behind an item that was cut stands all that was there of it
+cut_passed : (want : Want) (bytes kept more tail : List ℕ) (s : Syntax) (k other : List Syntax) (front on : List Item) → At (start_of want) bytes front (s ∷ k) (kept ++ more) → Sticks s kept reasons.Truncated → At (start_of want) bytes on other tail → length (spell front) < length (spell on) → length (spell front) + length kept ≤ length (spell on)
+cut_passed want bytes kept more tail s k other front on at cut next further =
+    let w = some_items other next.plain in
+    elim (front_next (start_of want) bytes front s k (kept ++ more) at [] on w.0 tail (next.to w.0 w.1) (append-nil bytes ∙ next.parts) next.whole) [
+      | inl shorter ↦ omega (arith, shorter, further)
+      | inr n ↦
+          let P : List ℕ → Type 0 = λ b. Comes s n.item b (spell n.rest ++ tail) in
+          let comes = subst P (append-nil (kept ++ more)) n.comes in
+          let long = cut_long s n.item kept more (spell n.rest ++ tail) at.plain.0 cut comes in
+          let size : length (spell on) ≡ length (spell front) + length (spell (n.item ∷ n.rest)) =
+          ap (λ w. length (spell w)) n.parts ∙ (ap length (spell-append front (n.item ∷ n.rest)) ∙ length-append (spell front) (spell (n.item ∷ n.rest))) in
+          omega (arith, long, size, length-append (item_text n.item) (spell n.rest))
+    ]
+
+-- a run from an item that was cut passes all that was there of it, or nothing
+pub passes_cut : (want : Want) (at took : ℕ) (k other : List Syntax) (waiting after : Waiting) (bytes kept more tail : List ℕ) → IsReading want at k waiting bytes (kept ++ more) → StopsFor k kept reasons.Truncated → IsReading want (at + took) other after bytes tail → took < length kept → took ≡ 0
+passes_cut want at took [] other waiting after bytes kept more tail r cut on short = absurd cut
+passes_cut want at zero (s ∷ k) other waiting after bytes kept more tail r cut on short = refl
+passes_cut want at (suc took) (s ∷ k) other waiting after bytes kept more tail r cut on short =
+    absurd (let passed = cut_passed want bytes kept more tail s k other r.front on.front r.reached cut on.reached (omega (arith, r.place, on.place)) in omega (arith, passed, r.place, on.place, short))
+
+-- what is cut short has at most 512 bytes
+pub cut_short : (want : Want) (at : ℕ) (k : List Syntax) (waiting : Waiting) (bytes tail : List ℕ) → IsReading want at k waiting bytes tail → StopsFor k tail reasons.Truncated → length tail ≤ 512
+cut_short want at [] waiting bytes tail r stops = absurd stops
+cut_short want at (s ∷ k) waiting bytes tail r (inl cut) =
+    let short = text_short cut.0 (begins_small s cut.0 r.reached.plain.0 cut.1) in
+    omega (arith, short, ap length cut.2.1, length-append tail cut.2.0)
+cut_short want at (s ∷ k) waiting bytes tail r (inr run) = run.2.1

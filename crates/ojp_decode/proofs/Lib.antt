@@ -1,2 +1,4 @@
 pub mod Following
 pub mod Standings
+pub mod Readings
+pub mod Counts

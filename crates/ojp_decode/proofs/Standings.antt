@@ -1,77 +1,78 @@
 -- Where the machine stops: more may come, a document ends, or a refusal is decided.
-use Rattle.std.proofs.Common.{◌≡◌, ◌≢◌, refl, ℕ, zero, suc, ◌+◌, ◌-◌, ◌<◌, ◌≤◌, Bool, true, false, List, [], ◌∷◌, ◌++◌, length, take, drop, Result, Ok, Err, ◌⊎◌, inl, inr, sym, ◌∙◌, ap, subst, arith, append_assoc, length-append, take-append-drop, lit<}
-use Rattle.std.specs.Prelude.{◌==◌}
-use Rattle.std.proofs.lemmas.List.{append-nil, drop-append-le, take-append-le}
-use Rattle.std.proofs.Math.Seq.{take-append_seam, take-append-add}
+use Rattle.std.proofs.Common.{◌≡◌, ◌≢◌, refl, ℕ, ◌≤◌, List, [], ◌∷◌, ◌++◌, length, take, drop, Option, Some, None, Result, Ok, Err, inl, sym, ◌∙◌, ap, subst, arith, append_assoc, take-append-drop, lit<}
+use Rattle.std.specs.Prelude.{Bool, true, false, ◌==◌}
+use Rattle.std.proofs.lemmas.List.{append-nil, append_cancel_right}
 use Rattle.ojp_tables.specs.declared.names.TheConstants.{HEAD}
+use Rattle.ojp_values.specs.declared.documents.Doc.{Doc}
 use Rattle.ojp_grammar.specs.declared.machine.Machine.{Machine}
 use Rattle.ojp_grammar.specs.declared.refusals.Reason.{Reason}
 use Rattle.ojp_grammar.specs.declared.refusals.Reason.TheVariants as reasons
 use Rattle.ojp_grammar.specs.declared.refusals.Want.{Want}
 use Rattle.ojp_grammar.specs.declared.shapes.Shape.{Shape}
 use Rattle.ojp_grammar.specs.Documents.{items}
+use Rattle.ojp_grammar.specs.Folding.{Waiting, nothing}
 use Rattle.ojp_grammar.specs.Items.{Item, spell}
-use Rattle.ojp_grammar.specs.Machine.{IsReading, StopsFor}
+use Rattle.ojp_grammar.specs.Machine.{StopsFor}
 use Rattle.ojp_grammar.specs.Places.{IsRefused}
 use Rattle.ojp_grammar.specs.Reached.{At, start_of}
-use Rattle.ojp_grammar.specs.Running.{IsAt}
-use Rattle.ojp_grammar.specs.Steps.{Accepts, Sticks, stack_of}
+use Rattle.ojp_grammar.specs.Running.{IsReading, Stands, IsRead}
+use Rattle.ojp_grammar.specs.Steps.{Accepts, stack_of}
 use Rattle.ojp_grammar.specs.Syntax.{Syntax}
 use Rattle.ojp_grammar.specs.Whole.{IsWhole}
 use Rattle.ojp_grammar.proofs.Progress.{at_start}
-use Rattle.ojp_grammar.proofs.Rebuilt.{stop_refused}
+use Rattle.ojp_grammar.proofs.Ended.{stop_refused, ended}
 use Rattle.ojp_grammar.proofs.Refusal.{no_front, at_trailing}
 use Rattle.ojp_grammar.proofs.Runs.{reading_start}
 use Rattle.ojp_grammar.proofs.Spelled.{text_opens}
 use Rattle.ojp_grammar.proofs.Unique.{at_accepted}
 use Rattle.ojp_grammar.proofs.Wanted.{start_means}
-use Rattle.ojp_decode.specs.Feeding.{BeginsNone, StaysRefused, Awaits, Ends, Decides, FeedsOn, FeedsBehind, trailing}
+use Rattle.ojp_decode.specs.Feeding.{BeginsNone, StaysRefused, Awaits, Decides, FeedsOn, trailing}
 use Rattle.ojp_decode.specs.declared.fed.Fed.{Fed}
 use Rattle.ojp_decode.specs.declared.fed.Fed.TheVariants as feds
 use Rattle.ojp_decode.specs.declared.fed.Stage.{Stage}
 use Rattle.ojp_decode.specs.declared.fed.Stage.TheVariants.{Fresh, Reading, Whole, Over}
 use Rattle.ojp_decode.specs.declared.fed.ReadRefused.{ReadRefused}
 use Rattle.ojp_decode.specs.declared.fed.ReadRefused.TheVariants.{At as Refusal, NoMemory}
-use Rattle.ojp_decode.specs.Progress.{reading, whole, over}
-use Rattle.ojp_decode.specs.Standing.{progress_of, stage_of, answer_at, IsSound, IsWaiting, ReadsOn}
-use Rattle.ojp_decode.proofs.Following.{nothing_left, sticks_more, reading_more}
+use Rattle.ojp_decode.specs.Progress.{Progress, reading, whole, over, spent}
+use Rattle.ojp_decode.specs.Standing.{stage_of, IsWaiting, IsEnded, IsSound, HasReadAt, KeepsFor, Gives, Feeds, ReadsOn}
+use Rattle.ojp_decode.proofs.Following.{nothing_left, sticks_more, reading_more, cut_short}
 
 -- ---- where no item comes
 
-none_begins : (want : Want) (bytes : List ℕ) (at : ℕ) (k : List Syntax) (reason : Reason) → IsReading want bytes at k → StopsFor k (drop at bytes) reason → BeginsNone want bytes
-none_begins want bytes at [] reason r stops = absurd stops
-none_begins want bytes at (s ∷ k) reason r stops =
-    no_front want (start_of want) bytes r.front s k (drop at bytes) reason (start_means want) r.reached stops
+none_begins : (want : Want) (at : ℕ) (k : List Syntax) (waiting : Waiting) (bytes tail : List ℕ) (reason : Reason) → IsReading want at k waiting bytes tail → StopsFor k tail reason → BeginsNone want bytes
+none_begins want at [] waiting bytes tail reason r stops = absurd stops
+none_begins want at (s ∷ k) waiting bytes tail reason r stops =
+    no_front want (start_of want) bytes r.front s k tail reason (start_means want) r.reached stops
 
-stays : (want : Want) (bytes : List ℕ) (at : ℕ) (k : List Syntax) (reason : Reason) → IsReading want bytes at k → StopsFor k (drop at bytes) reason → reason ≢ reasons.Truncated → (more : List ℕ) → IsRefused want (bytes ++ more) at reason
-stays want bytes at [] reason r stops other more = absurd stops
-stays want bytes at (s ∷ k) reason r stops other more =
-    let P : List ℕ → Type 0 = λ tail. Sticks s tail reason in
-    stop_refused want (bytes ++ more) at (s ∷ k) reason (reading_more want bytes more at (s ∷ k) r)
-    (subst P (sym (drop-append-le at bytes more r.within)) (sticks_more s (drop at bytes) more reason stops other))
+stops_more : (k : List Syntax) (tail more : List ℕ) (reason : Reason) → StopsFor k tail reason → reason ≢ reasons.Truncated → StopsFor k (tail ++ more) reason
+stops_more [] tail more reason stops other = absurd stops
+stops_more (s ∷ k) tail more reason stops other = sticks_more s tail more reason stops other
 
-reading_of : (want : Want) (bytes : List ℕ) (m : Machine) → m.want ≡ want → IsAt m bytes → IsReading want bytes m.at (stack_of m.stack.items)
-reading_of want bytes m same at = subst (λ w. IsReading w bytes m.at (stack_of m.stack.items)) same at
-
--- a machine that waits awaits more
-pub waits : (m : Machine) (bytes : List ℕ) → IsWaiting m bytes → IsRefused m.want bytes m.at reasons.Truncated
-waits m bytes w = stop_refused m.want bytes m.at (stack_of m.stack.items) reasons.Truncated w.at w.stops
-
-pub awaits : (m : Machine) (bytes : List ℕ) → IsWaiting m bytes → Awaits m.want bytes
-awaits m bytes w = record {
-  none = none_begins m.want bytes m.at (stack_of m.stack.items) reasons.Truncated w.at w.stops;
-  at = m.at;
-  refused = waits m bytes w;
+decided : (want : Want) (at : ℕ) (k : List Syntax) (waiting : Waiting) (bytes tail : List ℕ) (reason : Reason) → IsReading want at k waiting bytes tail → StopsFor k tail reason → reason ≢ reasons.Truncated → Decides want bytes (record { at = at; reason = reason })
+decided want at k waiting bytes tail reason r stops other = record {
+  none = none_begins want at k waiting bytes tail reason r stops;
+  reason = other;
+  stays = λ more.
+      stop_refused want at k waiting (bytes ++ more) (tail ++ more) reason (reading_more want at k waiting bytes tail more r) (stops_more k tail more reason stops other);
 }
 
-pub decides : (want : Want) (bytes : List ℕ) (m : Machine) (reason : Reason) → m.want ≡ want → IsAt m bytes → StopsFor (stack_of m.stack.items) (drop m.at bytes) reason → reason ≢ reasons.Truncated → Decides want bytes (record { at = m.at; reason = reason })
-decides want bytes m reason same at stops other =
-    let r = reading_of want bytes m same at in
-    record {
-      none = none_begins want bytes m.at (stack_of m.stack.items) reason r stops;
-      reason = other;
-      stays = stays want bytes m.at (stack_of m.stack.items) reason r stops other;
-    }
+-- the machine's stop decides a refusal, also with more bytes behind
+pub decides : (want : Want) (m : Machine) (bytes tail more : List ℕ) (reason : Reason) → m.want ≡ want → Stands m bytes tail → StopsFor (stack_of m.stack.items) tail reason → reason ≢ reasons.Truncated → Decides want (bytes ++ more) (record { at = m.at; reason = reason })
+decides want m bytes tail more reason same r stops other =
+    let P : Want → Type 0 = λ w. Decides w (bytes ++ more) (record { at = m.at; reason = reason }) in
+    subst P same
+    (decided m.want m.at (stack_of m.stack.items) m.draft (bytes ++ more) (tail ++ more) reason
+    (reading_more m.want m.at (stack_of m.stack.items) m.draft bytes tail more r) (stops_more (stack_of m.stack.items) tail more reason stops other) other)
+
+-- a machine that waits awaits more
+pub waits : (m : Machine) (bytes kept : List ℕ) → IsWaiting m bytes kept → IsRefused m.want bytes m.at reasons.Truncated
+waits m bytes kept w = stop_refused m.want m.at (stack_of m.stack.items) m.draft bytes kept reasons.Truncated w.stands w.stops
+
+pub begins_none : (m : Machine) (bytes kept : List ℕ) → IsWaiting m bytes kept → BeginsNone m.want bytes
+begins_none m bytes kept w = none_begins m.want m.at (stack_of m.stack.items) m.draft bytes kept reasons.Truncated w.stands w.stops
+
+awaits : (m : Machine) (bytes kept : List ℕ) → IsWaiting m bytes kept → Awaits m.want bytes
+awaits m bytes kept w = record { none = begins_none m bytes kept w; at = m.at; refused = waits m bytes kept w }
 
 -- ---- the first byte
 
@@ -82,94 +83,83 @@ start_stops want =
 
 -- no bytes are the front of any document
 pub nothing_refused : (want : Want) → IsRefused want [] 0 reasons.Truncated
-nothing_refused want = stop_refused want [] 0 (start_of want) reasons.Truncated (reading_start want []) (start_stops want)
-
-pub nothing_begins : (want : Want) → BeginsNone want []
-nothing_begins want = none_begins want [] 0 (start_of want) reasons.Truncated (reading_start want []) (start_stops want)
+nothing_refused want = stop_refused want 0 (start_of want) nothing [] [] reasons.Truncated (reading_start want []) (start_stops want)
 
 -- ---- the end of a document
 
--- what was read to the end is a document
-end_front : (want : Want) (bytes : List ℕ) (at : ℕ) → IsReading want bytes at [] → IsWhole want (take at bytes)
-end_front want bytes at r =
-    let P : List Item → Type 0 = λ w. Accepts w (start_of want) in
-    let d = (start_means want).accepted r.front (subst P (append-nil r.front) (r.reached.to [] tt)) in (
-      d.doc,
-      d.wanted,
-      ap (λ b. take at b) r.reached.parts
-          ∙ (ap (λ n. take n (spell r.front ++ drop at bytes)) r.place
-          ∙ (take-append_seam (spell r.front) (drop at bytes) ∙ ap spell (sym d.parts))),
+front_accepted : (want : Want) (at : ℕ) (waiting : Waiting) (bytes tail : List ℕ) → (r : IsReading want at [] waiting bytes tail) → Accepts r.front (start_of want)
+front_accepted want at waiting bytes tail r =
+    let P : List Item → Type 0 = λ w. Accepts w (start_of want) in subst P (append-nil r.front) (r.reached.to [] tt)
+
+-- the bytes of the document alone
+pub front_alone : (want : Want) (at : ℕ) (waiting : Waiting) (bytes tail own : List ℕ) → IsReading want at [] waiting bytes tail → bytes ≡ own ++ tail → IsReading want at [] waiting own []
+front_alone want at waiting bytes tail own r parts =
+    let w : List Item = r.front in
+    let means = start_means want in
+    let all : List ℕ = spell w ++ [] in
+    let at : At (start_of want) all w [] [] =
+    at_accepted (start_of want) all means.plain [] w (start_of want) [] (at_start (start_of want) all means.plain) (front_accepted want at waiting bytes tail r) in
+    let own_is : all ≡ own = append-nil (spell w) ∙ append_cancel_right (spell w) own tail (sym r.reached.parts ∙ parts) in
+    let P : List ℕ → Type 0 = λ b. At (start_of want) b w [] [] in
+    record { front = w; reached = subst P own_is at; place = r.place; folded = r.folded }
+
+pub is_whole : (want : Want) (at : ℕ) (waiting : Waiting) (own : List ℕ) → IsReading want at [] waiting own [] → IsWhole want own
+is_whole want at waiting own r =
+    let d = (start_means want).accepted r.front (front_accepted want at waiting own [] r) in
+    (d.doc, d.wanted, r.reached.parts ∙ (append-nil (spell r.front) ∙ ap spell (sym d.parts)))
+
+-- where the document ends within the piece, its bytes are those before and those that are used
+own_bytes : (bytes piece : List ℕ) (used : ℕ) → bytes ++ piece ≡ (bytes ++ take used piece) ++ drop used piece
+own_bytes bytes piece used =
+    ap (λ p. bytes ++ p) (sym (take-append-drop used piece)) ∙ sym (append_assoc bytes (take used piece) (drop used piece))
+
+pub own_reading : (want : Want) (m : Machine) (bytes piece : List ℕ) (used : ℕ) → m.want ≡ want → Stands m (bytes ++ piece) (drop used piece) → m.stack.items ≡ [] → IsReading want m.at [] m.draft (bytes ++ take used piece) []
+own_reading want m bytes piece used same r none =
+    front_alone want m.at m.draft (bytes ++ piece) (drop used piece) (bytes ++ take used piece) (ended want m (bytes ++ piece) (drop used piece) same r none) (own_bytes bytes piece used)
+
+own_stands : (m : Machine) (own : List ℕ) → IsReading m.want m.at [] m.draft own [] → m.stack.items ≡ [] → Stands m own []
+own_stands m own r none = subst (λ (stack : List Shape). IsReading m.want m.at (stack_of stack) m.draft own []) (sym none) r
+
+-- ---- what a piece does
+
+-- what was read on is fed on
+pub reads_follow : (want : Want) (bytes piece : List ℕ) (fed : Result Fed ReadRefused) (m : Machine) (kept : List ℕ) → ReadsOn want (bytes ++ piece) piece fed m kept → (after : Progress) × HasReadAt (stage_of fed) m kept after × FeedsOn want bytes piece fed after
+reads_follow want bytes piece (Ok feds.More) m kept h =
+    let P : Want → Type 0 = λ w. Awaits w (bytes ++ piece) in (
+      reading want (bytes ++ piece),
+      (bytes ++ piece, ap (λ w. reading w (bytes ++ piece)) (sym h.0), h.1),
+      (subst P h.0 (awaits m (bytes ++ piece) kept h.1), refl),
     )
+reads_follow want bytes piece (Ok (feds.Whole used)) m kept h =
+    let own : List ℕ = bytes ++ take used piece in
+    let alone = own_reading m.want m bytes piece used refl h.2 h.3 in
+    let P : Want → Type 0 = λ w. IsWhole w own in (
+      whole want own,
+      (own, ap (λ w. whole w own) (sym h.0), record { stands = own_stands m own alone h.3; ended = h.3; none_kept = h.4 }),
+      (record { within = h.1; whole = subst P h.0 (is_whole m.want m.at m.draft own alone) }, refl),
+    )
+reads_follow want bytes piece (Err (Refusal r)) m kept h = (over r, refl, (h, refl))
+reads_follow want bytes piece (Err NoMemory) m kept h = (spent, refl, refl)
 
--- the place of a number beside another
-compared : (a b : ℕ) → (a ≤ b) ⊎ (b < a)
-compared zero b = inl (omega arith)
-compared (suc a) zero = inr (omega arith)
-compared (suc a) (suc b) = elim (compared a b) [ inl less ↦ inl (omega arith) | inr more ↦ inr (omega arith) ]
+-- what a piece does to a reader that has read so far
+abbrev pub Went : Progress → List ℕ → Result Fed ReadRefused → Stage → Machine → List ℕ → Type 0
+Went before piece fed stage m kept = Feeds before piece fed (record { stage = stage; machine = m; kept = kept })
 
--- a document that was not whole before the piece ends in it
-ends_behind : (want : Want) (bytes piece : List ℕ) (at : ℕ) → BeginsNone want bytes → IsReading want (bytes ++ piece) at [] → length bytes ≤ at
-ends_behind want bytes piece at none r =
-    elim (compared at (length bytes)) [
-      | inl before ↦
-          let w = end_front want (bytes ++ piece) at r in
-          absurd (none w.0 (drop at bytes) w.1
-          (sym (take-append-drop at bytes) ∙ ap (λ t. t ++ drop at bytes) (sym (take-append-le at bytes piece before) ∙ w.2)))
-      | inr behind ↦ omega (arith, behind)
-    ]
+from_reading : (want : Want) (bytes piece : List ℕ) (fed : Result Fed ReadRefused) (stage : Stage) (m : Machine) (kept : List ℕ) (before : Progress) → before ≡ reading want bytes → stage ≡ stage_of fed → ReadsOn want (bytes ++ piece) piece fed m kept → Went before piece fed stage m kept
+from_reading want bytes piece fed stage m kept before e is h =
+    let P : Progress → Type 0 = λ p. Went p piece fed stage m kept in
+    let Q : Stage → Type 0 = λ s. Went (reading want bytes) piece fed s m kept in
+    subst P (sym e) (subst Q (sym is) (reads_follow want bytes piece fed m kept h))
 
--- where a document ends
-pub record EndsAt (want : Want) (bytes piece all : List ℕ) (at : ℕ) : Type 0 where
-  pub behind : length bytes ≤ at
-  pub ends : Ends want bytes piece (at - length bytes)
-  pub taken : take at all ≡ bytes ++ take (at - length bytes) piece
+pub reading_feeds : (stage after : Stage) (old m : Machine) (kept new piece : List ℕ) (fed : Result Fed ReadRefused) (before : Progress) → stage ≡ Reading → HasReadAt stage old kept before → after ≡ stage_of fed → ((bytes : List ℕ) → IsWaiting old bytes kept → ReadsOn old.want (bytes ++ piece) piece fed m new) → Went before piece fed after m new
+reading_feeds stage after old m kept new piece fed before at h is reads =
+    let here : HasReadAt Reading old kept before = subst (λ (s : Stage). HasReadAt s old kept before) at h in
+    from_reading old.want here.0 piece fed after m new before here.1 is (reads here.0 here.2)
 
-ends_at : (want : Want) (bytes piece : List ℕ) (at : ℕ) → BeginsNone want bytes → IsReading want (bytes ++ piece) at [] → EndsAt want bytes piece (bytes ++ piece) at
-ends_at want bytes piece at none r =
-    let behind : length bytes ≤ at = ends_behind want bytes piece at none r in
-    let e : at ≡ length bytes + (at - length bytes) = omega (arith, behind) in
-    let taken : take at (bytes ++ piece) ≡ bytes ++ take (at - length bytes) piece =
-    ap (λ n. take n (bytes ++ piece)) e ∙ take-append-add bytes piece (at - length bytes) in
-    record {
-      behind = behind;
-      ends = record {
-        within = omega (arith, r.within, length-append bytes piece);
-        whole = subst (IsWhole want) taken (end_front want (bytes ++ piece) at r);
-      };
-      taken = taken;
-    }
-
--- a run that ends a document ends it within the piece
-pub run_ends : (want : Want) (bytes piece all : List ℕ) (m : Machine) → m.want ≡ want → all ≡ bytes ++ piece → BeginsNone want bytes → IsAt m all → m.stack.items ≡ [] → EndsAt want bytes piece all m.at
-run_ends want bytes piece all m same parts none at empty =
-    let here : IsReading want all m.at [] =
-    subst (λ (stack : List Shape). IsReading want all m.at (stack_of stack)) empty (reading_of want all m same at) in
-    let P : List ℕ → Type 0 = λ b. IsReading want b m.at [] in
-    let Q : List ℕ → Type 0 = λ b. EndsAt want bytes piece b m.at in
-    subst Q (sym parts) (ends_at want bytes piece m.at none (subst P parts here))
-
-pub reads_whole : (want : Want) (bytes piece all new : List ℕ) (m : Machine) (before : ℕ) → EndsAt want bytes piece all m.at → m.want ≡ want → before ≡ length bytes → new ≡ take m.at all → ReadsOn want bytes piece (Ok (feds.Whole (m.at - before))) m new
-reads_whole want bytes piece all new m before ends same e cut =
-    let P : ℕ → Type 0 = λ n. (m.want ≡ want) × Ends want bytes piece (m.at - n) × (new ≡ bytes ++ take (m.at - n) piece) in
-    subst P (sym e) (same, ends.ends, cut ∙ ends.taken)
-
--- a run that stops waits behind the piece, or decides a refusal
-pub reads_stopped : (want : Want) (bytes piece all kept : List ℕ) (m : Machine) (reason : Reason) → m.want ≡ want → all ≡ kept → kept ≡ bytes ++ piece → IsAt m all → StopsFor (stack_of m.stack.items) (drop m.at all) reason → ReadsOn want bytes piece (answer_at m.at reason) m kept
-reads_stopped want bytes piece all kept m reason same e parts at stops =
-    let P : List ℕ → Type 0 = IsAt m in
-    let Q : List ℕ → Type 0 = λ b. StopsFor (stack_of m.stack.items) (drop m.at b) reason in
-    by_reason reason (subst P e at) (subst Q e stops)
-  where
-    decided : (reason : Reason) → IsAt m kept → StopsFor (stack_of m.stack.items) (drop m.at kept) reason → reason ≢ reasons.Truncated → Decides want (bytes ++ piece) (record { at = m.at; reason = reason })
-    decided reason at stops other =
-        let P : List ℕ → Type 0 = λ b. Decides want b (record { at = m.at; reason = reason }) in
-        subst P parts (decides want kept m reason same at stops other)
-
-    by_reason : (reason : Reason) → IsAt m kept → StopsFor (stack_of m.stack.items) (drop m.at kept) reason → ReadsOn want bytes piece (answer_at m.at reason) m kept
-    by_reason reasons.Truncated at stops = (same, record { at = at; stops = stops }, parts)
-    by_reason reasons.Markup at stops = decided reasons.Markup at stops (λ none. cc)
-    by_reason (reasons.Field kind) at stops = decided (reasons.Field kind) at stops (λ none. cc)
-    by_reason reasons.Trailing at stops = decided reasons.Trailing at stops (λ none. cc)
+pub fresh_feeds : (stage after : Stage) (old m : Machine) (kept new piece : List ℕ) (fed : Result Fed ReadRefused) (before : Progress) → stage ≡ Fresh → HasReadAt stage old kept before → after ≡ stage_of fed → ReadsOn old.want piece piece fed m new → Went before piece fed after m new
+fresh_feeds stage after old m kept new piece fed before at h is reads =
+    let here : HasReadAt Fresh old kept before = subst (λ (s : Stage). HasReadAt s old kept before) at h in
+    from_reading old.want [] piece fed after m new before here.0 is reads
 
 -- behind a whole document more bytes are trailing, whatever follows
 trailing_stays : (want : Want) (bytes piece : List ℕ) → IsWhole want bytes → piece ≢ [] → StaysRefused want (bytes ++ piece) (trailing (length bytes))
@@ -185,79 +175,77 @@ trailing_stays want bytes piece document some more =
     let Q : List ℕ → Type 0 = λ b. IsRefused want ((b ++ piece) ++ more) (length b) reasons.Trailing in
     subst Q (sym document.2) (subst P (sym (append_assoc (spell w) piece more)) refused)
 
--- ---- by the stage
+pub ended_at : (m : Machine) (bytes kept : List ℕ) → IsEnded m bytes kept → m.at ≡ length bytes
+ended_at m bytes kept e = e.stands.place ∙ ap length (sym (e.stands.reached.parts ∙ append-nil (spell e.stands.front)))
 
--- the bytes in which no document is whole are refused as truncated where the machine is
-pub cut_at : (stage : Stage) (m : Machine) (kept : List ℕ) (want : Want) (bytes : List ℕ) → IsSound stage m kept → progress_of stage m.want kept ≡ reading want bytes → IsRefused want bytes m.at reasons.Truncated
-cut_at Fresh m kept want bytes sound e =
-    let none : [] ≡ bytes = sym sound.0 ∙ (let same : kept ≡ bytes = cc in same) in
-    let P : List ℕ → Type 0 = λ b. IsRefused want b m.at reasons.Truncated in
-    subst P none (subst (λ n. IsRefused want [] n reasons.Truncated) (sym sound.1) (nothing_refused want))
-cut_at Reading m kept want bytes sound e =
-    let same : m.want ≡ want = cc in
-    let all : kept ≡ bytes = cc in
-    let P : List ℕ → Type 0 = λ b. IsRefused want b m.at reasons.Truncated in
-    subst P all (subst (λ w. IsRefused w kept m.at reasons.Truncated) same (waits m kept sound))
-cut_at Whole m kept want bytes sound e = absurd cc
-cut_at (Over (Refusal r)) m kept want bytes sound e = absurd cc
-cut_at (Over NoMemory) m kept want bytes sound e = absurd cc
+-- another piece behind a whole document
+pub whole_feeds : (stage after : Stage) (m : Machine) (kept piece : List ℕ) (refused : ReadRefused) (before : Progress) → stage ≡ Whole → HasReadAt stage m kept before → after ≡ Over refused → refused ≡ Refusal (trailing m.at) → piece ≢ [] → Went before piece (Err refused) after m kept
+whole_feeds stage after m kept piece refused before at h is told some =
+    let here : HasReadAt Whole m kept before = subst (λ (s : Stage). HasReadAt s m kept before) at h in
+    let bytes : List ℕ = here.0 in
+    let place : m.at ≡ length bytes = ended_at m bytes kept here.2 in
+    let document : IsWhole m.want bytes = is_whole m.want m.at m.draft bytes (ended m.want m bytes [] refl here.2.stands here.2.ended) in
+    let all : refused ≡ Refusal (trailing (length bytes)) = told ∙ ap (λ n. Refusal (trailing n)) place in
+    let P : Progress → Type 0 = λ p. Went p piece (Err refused) after m kept in
+    let Q : ReadRefused → Type 0 = λ r. Went (whole m.want bytes) piece (Err r) (Over r) m kept in
+    let S : Stage → Type 0 = λ s. Went (whole m.want bytes) piece (Err refused) s m kept in
+    let fed : Went (whole m.want bytes) piece (Err (Refusal (trailing (length bytes)))) (Over (Refusal (trailing (length bytes)))) m kept = (
+      over (trailing (length bytes)),
+      refl,
+      record {
+        empty = λ none. absurd (some none);
+        more = λ _. (refl, refl);
+        stays = trailing_stays m.want bytes piece document;
+      },
+    ) in
+    subst P (sym here.1) (subst S (sym is) (subst Q (sym all) fed))
 
--- while a machine reads, no document begins the bytes
-pub none_at : (stage : Stage) (m : Machine) (kept : List ℕ) → stage ≡ Reading → IsSound stage m kept → BeginsNone m.want kept
-none_at stage m kept e sound = let P : Stage → Type 0 = λ s. IsSound s m kept in (awaits m kept (subst P e sound)).none
+-- ---- what a reader keeps and gives
 
--- what was read on is fed on
-fed_on : (want : Want) (bytes piece : List ℕ) (fed : Result Fed ReadRefused) (m : Machine) (all : List ℕ) → ReadsOn want bytes piece fed m all → FeedsOn want bytes piece fed (progress_of (stage_of fed) m.want all)
-fed_on want bytes piece (Ok feds.More) m all h =
-    let P : Want → Type 0 = λ w. Awaits w all in (
-      subst (Awaits want) h.2 (subst P h.0 (awaits m all h.1)),
-      ap (λ w. reading w all) h.0 ∙ ap (λ b. reading want b) h.2,
-    )
-fed_on want bytes piece (Ok (feds.Whole used)) m all h = (h.1, ap (λ w. whole w all) h.0 ∙ ap (λ b. whole want b) h.2)
-fed_on want bytes piece (Err (Refusal r)) m all h = (h, refl)
-fed_on want bytes piece (Err NoMemory) m all h = refl
+pub over_sound : (refused : ReadRefused) (m : Machine) (kept : List ℕ) → IsSound (Over refused) m kept
+over_sound (Refusal r) m kept = (over r, refl)
+over_sound NoMemory m kept = (spent, refl)
 
-fed_same : (want other : Want) (bytes kept piece : List ℕ) (fed : Result Fed ReadRefused) (after : Stage) (m : Machine) (all : List ℕ) → other ≡ want → kept ≡ bytes → after ≡ stage_of fed → ReadsOn other kept piece fed m all → FeedsOn want bytes piece fed (progress_of after m.want all)
-fed_same want other bytes kept piece fed after m all same_want same_bytes e h =
-    let P : Want → Type 0 = λ w. FeedsOn w kept piece fed (progress_of (stage_of fed) m.want all) in
-    let Q : List ℕ → Type 0 = λ b. FeedsOn want b piece fed (progress_of (stage_of fed) m.want all) in
-    let R : Stage → Type 0 = λ s. FeedsOn want bytes piece fed (progress_of s m.want all) in
-    subst R (sym e) (subst Q same_bytes (subst P same_want (fed_on other kept piece fed m all h)))
+pub keeps_cut : (stage : Stage) (m : Machine) (kept : List ℕ) (progress : Progress) (count : ℕ) → stage ≡ Reading → HasReadAt stage m kept progress → count ≡ length kept → KeepsFor progress count
+keeps_cut stage m kept progress count at h size =
+    let here : HasReadAt Reading m kept progress = subst (λ (s : Stage). HasReadAt s m kept progress) at h in
+    let P : Progress → Type 0 = λ p. KeepsFor p count in
+    let few = cut_short m.want m.at (stack_of m.stack.items) m.draft here.0 kept here.2.stands here.2.stops in
+    let bound : count ≤ 512 = omega (arith, few, size) in
+    subst P (sym here.1) bound
 
-pub feeds_on : (stage after : Stage) (old m : Machine) (kept all : List ℕ) (want : Want) (bytes piece : List ℕ) (fed : Result Fed ReadRefused) → ReadsOn old.want kept piece fed m all → after ≡ stage_of fed → progress_of stage old.want kept ≡ reading want bytes → FeedsOn want bytes piece fed (progress_of after m.want all)
-feeds_on Fresh after old m kept all want bytes piece fed h e is =
-    let same_want : old.want ≡ want = cc in
-    let same_bytes : kept ≡ bytes = cc in
-    fed_same want old.want bytes kept piece fed after m all same_want same_bytes e h
-feeds_on Reading after old m kept all want bytes piece fed h e is =
-    let same_want : old.want ≡ want = cc in
-    let same_bytes : kept ≡ bytes = cc in
-    fed_same want old.want bytes kept piece fed after m all same_want same_bytes e h
-feeds_on Whole after old m kept all want bytes piece fed h e is = absurd cc
-feeds_on (Over (Refusal r)) after old m kept all want bytes piece fed h e is = absurd cc
-feeds_on (Over NoMemory) after old m kept all want bytes piece fed h e is = absurd cc
+-- the end of the bytes where a document goes on
+pub gives_cut : (stage : Stage) (m : Machine) (kept : List ℕ) (progress : Progress) (refused : ReadRefused) → stage ≡ Reading → HasReadAt stage m kept progress → refused ≡ Refusal (record { at = m.at; reason = reasons.Truncated }) → Gives progress (Err refused)
+gives_cut stage m kept progress refused at h told =
+    let here : HasReadAt Reading m kept progress = subst (λ (s : Stage). HasReadAt s m kept progress) at h in
+    let P : Progress → Type 0 = λ p. Gives p (Err refused) in
+    let Q : ReadRefused → Type 0 = λ r. Gives (reading m.want here.0) (Err r) in
+    subst P (sym here.1) (subst Q (sym told) (refl, waits m here.0 kept here.2))
+
+-- the end of the bytes where nothing was fed
+pub gives_nothing : (stage : Stage) (m : Machine) (kept : List ℕ) (progress : Progress) (refused : ReadRefused) → stage ≡ Fresh → HasReadAt stage m kept progress → refused ≡ Refusal (record { at = m.at; reason = reasons.Truncated }) → Gives progress (Err refused)
+gives_nothing stage m kept progress refused at h told =
+    let here : HasReadAt Fresh m kept progress = subst (λ (s : Stage). HasReadAt s m kept progress) at h in
+    let P : Progress → Type 0 = λ p. Gives p (Err refused) in
+    let Q : ReadRefused → Type 0 = λ r. Gives (reading m.want []) (Err r) in
+    let R : ℕ → Type 0 = λ n. IsRefused m.want [] n reasons.Truncated in
+    subst P (sym here.0) (subst Q (sym told) (refl, subst R (sym here.2) (nothing_refused m.want)))
+
+-- the document of the bytes of a whole one
+pub gives_document : (stage : Stage) (m : Machine) (kept : List ℕ) (progress : Progress) (found : Option Doc) (document : Doc) → stage ≡ Whole → HasReadAt stage m kept progress → found ≡ Some document → ((bytes : List ℕ) → Stands m bytes [] → m.stack.items ≡ [] → IsRead m.want bytes found) → Gives progress (Ok document)
+gives_document stage m kept progress found document at h is read =
+    let here : HasReadAt Whole m kept progress = subst (λ (s : Stage). HasReadAt s m kept progress) at h in
+    let P : Progress → Type 0 = λ p. Gives p (Ok document) in
+    let Q : Option Doc → Type 0 = IsRead m.want here.0 in
+    subst P (sym here.1) (subst Q is (read here.0 here.2.stands here.2.ended))
+
+-- a whole document is there
+pub never_none : (stage : Stage) (m : Machine) (kept : List ℕ) (found : Option Doc) → stage ≡ Whole → IsSound stage m kept → found ≡ None → ((bytes : List ℕ) → Stands m bytes [] → m.stack.items ≡ [] → IsRead m.want bytes found) → ⊥
+never_none stage m kept found at sound is read =
+    let here : HasReadAt Whole m kept sound.0 = subst (λ (s : Stage). HasReadAt s m kept sound.0) at sound.1 in
+    let Q : Option Doc → Type 0 = IsRead m.want here.0 in
+    subst Q is (read here.0 here.2.stands here.2.ended)
 
 pub some_piece : (piece : List ℕ) (empty : Bool) → empty ≡ (length piece == 0) → empty ≡ false → piece ≢ []
 some_piece piece empty is filled none =
     let e : false ≡ true = sym filled ∙ (is ∙ ap (λ (l : List ℕ). length l == 0) none) in cc
-
--- another piece behind a whole document
-pub feeds_behind : (stage : Stage) (m : Machine) (kept : List ℕ) (want : Want) (bytes piece : List ℕ) (len : ℕ) (refused : ReadRefused) → IsSound stage m kept → progress_of stage m.want kept ≡ whole want bytes → len ≡ length kept → refused ≡ Refusal (trailing len) → piece ≢ [] → FeedsBehind want bytes piece (Err refused) (progress_of (Over refused) m.want kept)
-feeds_behind Fresh m kept want bytes piece len refused sound is e r some = absurd cc
-feeds_behind Reading m kept want bytes piece len refused sound is e r some = absurd cc
-feeds_behind Whole m kept want bytes piece len refused sound is e r some =
-    let same_want : m.want ≡ want = cc in
-    let same_bytes : kept ≡ bytes = cc in
-    let size : len ≡ length bytes = e ∙ ap length same_bytes in
-    let all : refused ≡ Refusal (trailing (length bytes)) = r ∙ ap (λ n. Refusal (trailing n)) size in
-    let P : Want → Type 0 = λ w. IsWhole w kept in
-    let document : IsWhole want bytes = subst (IsWhole want) same_bytes (subst P same_want sound) in
-    let Q : ReadRefused → Type 0 = λ x. FeedsBehind want bytes piece (Err x) (progress_of (Over x) m.want kept) in
-    let here : FeedsBehind want bytes piece (Err (Refusal (trailing (length bytes)))) (over (trailing (length bytes))) = record {
-      empty = λ none. absurd (some none);
-      more = λ _. (refl, refl);
-      stays = trailing_stays want bytes piece document;
-    } in
-    subst Q (sym all) here
-feeds_behind (Over (Refusal x)) m kept want bytes piece len refused sound is e r some = absurd cc
-feeds_behind (Over NoMemory) m kept want bytes piece len refused sound is e r some = absurd cc

@@ -63,7 +63,7 @@ IsCut want bytes (Ok doc) = ⊥
 IsCut want bytes (Err (At refused)) = (refused.reason ≡ Truncated) × IsRefused want bytes refused.at Truncated
 IsCut want bytes (Err NoMemory) = ⊥
 
--- the bytes of a whole document give it, or there is no memory for it
+-- the bytes of a whole document give it
 abbrev pub IsRead : Want → List ℕ → Result Doc ReadRefused → Type 0
 IsRead want bytes (Ok doc) = IsWanted want doc × Spells doc bytes
-IsRead want bytes (Err refused) = refused ≡ NoMemory
+IsRead want bytes (Err refused) = ⊥

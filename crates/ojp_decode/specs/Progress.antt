@@ -1,5 +1,5 @@
 -- How far a reader has come.
-use Rattle.std.specs.Prelude.{ℕ, List, []}
+use Rattle.std.specs.Prelude.{ℕ, List}
 use Rattle.ojp_grammar.specs.declared.refusals.Refused.{Refused}
 use Rattle.ojp_grammar.specs.declared.refusals.Want.{Want}
 
@@ -12,10 +12,3 @@ pub data Progress : Type 0 where
   over : Refused → Progress
   -- memory ran out
   spent : Progress
-
--- the bytes that were fed, of a whole document its own; none behind a refusal
-abbrev pub bytes_of : Progress → List ℕ
-bytes_of (reading want bytes) = bytes
-bytes_of (whole want bytes) = bytes
-bytes_of (over refused) = []
-bytes_of spent = []

@@ -1,41 +1,44 @@
 //! Documents, read in pieces.
-ghost use Rattle.std.specs.Prelude.{◌≡◌, ◌++◌, ℕ, [], List, length, Ok, Err};
-ghost use Rattle.ojp_grammar.specs.declared.refusals.Refused.{Refused};
-ghost use Rattle.ojp_grammar.specs.declared.refusals.Want.{Want};
-ghost use Rattle.ojp_grammar.specs.Running.{IsAt};
-ghost use Rattle.ojp_decode.specs.Progress.{bytes_of, reading, whole, over, spent};
-ghost use Rattle.ojp_decode.specs.Feeding.{BeginsNone, FeedsOn, FeedsBehind, IsCut, IsRead};
-ghost use Rattle.ojp_decode.specs.Standing.{ReadsOn, answer_at, stage_of};
-ghost use Rattle.ojp_decode.specs.declared.fed.ReadRefused.TheVariants as refusals;
+ghost use Rattle.std.specs.Prelude.{◌≡◌, ◌≢◌, ◌++◌, ◌≤◌, ℕ, [], List, length, drop, MatchBool};
+ghost use Rattle.ojp_grammar.specs.declared.refusals.Reason.TheVariants.{Truncated};
+ghost use Rattle.ojp_grammar.specs.Running.{Stands};
+ghost use Rattle.ojp_decode.specs.Progress.{Progress, reading};
+ghost use Rattle.ojp_decode.specs.Standing.{HasRead, Feeds, Gives, KeepsFor, IsWaiting, ReadsOn, stage_of};
 
 use crate::fed::{Fed, ReadRefused, Stage};
+use arrayvec::ArrayVec;
+use ojp_grammar::draft::Draft;
 use ojp_grammar::machine::Machine;
 use ojp_grammar::refusals::{Reason, Refused, Want};
-use ojp_grammar::whole::build;
 use ojp_values::documents::Doc;
 use std::alloc::Global;
 use std::marker::Model;
 
-/// One document, whatever pieces it comes in. All bytes fed are kept, and no item that is whole is
-/// looked at again.
+/// One more byte than the longest item has: so many bytes decide whether the item in front comes.
+const MOST: usize = 513;
+
+/// One document, whatever pieces it comes in. Of the bytes fed it keeps those of the item that the last
+/// piece cut, and of the items before the values that they give.
 #[derive(Drop)]
 pub struct Reader {
     alloc: Global,
     stage: Stage,
     machine: Machine,
-    bytes: Vec<u8>,
+    kept: ArrayVec<u8, MOST>,
 }
 
 impl Model for Reader {
-    ghost use Rattle.ojp_decode.specs.Progress.{Progress};
+    ghost use Rattle.std.specs.Coded.{codes};
+    ghost use Rattle.ojp_grammar.specs.contracts.shapes.Shape as shapes;
+    ghost use Rattle.ojp_decode.specs.Standing.{ReaderView, IsSound};
 
-    ghost Value = { Progress };
+    ghost Value = { ReaderView };
 
-    ghost use Rattle.ojp_decode.specs.Standing.{progress_of, IsSound};
+    ghost coded = { Prim.hlevel (codes, shapes.the_row.coded) };
 
-    ghost view = { λ r. progress_of r.stage r.machine.want r.bytes.items };
+    ghost view = { λ r. record { stage = r.stage; machine = r.machine; kept = r.kept.items } };
 
-    ghost invariant = { λ r. IsSound r.stage r.machine r.bytes.items };
+    ghost invariant = { λ r. IsSound r.stage r.machine r.kept.items };
 }
 
 /// The refusal at a place, for a reason.
@@ -48,13 +51,13 @@ fn refused(at: usize, reason: Reason) -> ReadRefused
     })
 }
 
-/// What is answered where the machine stops for a reason.
-fn stopped(at: usize, reason: Reason) -> Result<Fed, ReadRefused>
-    ensures { result ≡ answer_at at reason }
+/// Whether more bytes may still become what is wanted.
+fn is_truncated(reason: Reason) -> bool
+    ensures { MatchBool result (reason ≡ Truncated) (reason ≢ Truncated) }
 {
     match reason {
-        Reason::Truncated => Ok(Fed::More),
-        _ => Err(refused(at, reason)),
+        Reason::Truncated => true,
+        Reason::Markup | Reason::Field(_) | Reason::Trailing => false,
     }
 }
 
@@ -69,42 +72,84 @@ fn stage_after(fed: Result<Fed, ReadRefused>) -> Stage
     }
 }
 
-/// Reads on in all the bytes, where no document is whole before the piece.
-fn read_on(machine: &mut Machine, bytes: &mut Vec<u8>, piece: &[u8]) -> Result<Fed, ReadRefused>
-    requires at { IsAt machine.old (bytes.old.items ++ piece.now) }
-    requires none { BeginsNone machine.old.want bytes.old.items }
-    ensures { ReadsOn machine.old.want bytes.old.items piece.now result machine.new bytes.new.items }
+/// Reads a piece from a place on, where the machine is.
+fn read_piece(
+    machine: &mut Machine,
+    kept: &mut ArrayVec<u8, MOST>,
+    piece: &[u8],
+    passed: usize,
+) -> Result<Fed, ReadRefused>
+    requires within { passed ≤ length piece.now }
+    requires stands { (bytes : List ℕ) × Stands machine.old bytes (drop passed piece.now) }
+    requires none { kept.old.items ≡ [] }
+    ensures { (bytes : List ℕ) → Stands machine.old bytes (drop passed piece.now) → ReadsOn machine.old.want bytes piece.now result machine.new kept.new.items }
 {
-    let before = bytes.len();
-    let Ok(()) = bytes.extend_from_slice(piece) else {
+    let Ok(ran) = machine.run(&piece[passed..]) else {
         return Err(ReadRefused::NoMemory);
     };
-    match machine.run(bytes.as_slice()) {
-        Ok(None) => {
-            bytes.truncate(machine.at);
-            Ok(Fed::Whole {
-                used: machine.at - before,
-            })
-        }
-        Ok(Some(reason)) => stopped(machine.at, reason),
-        Err(_) => Err(ReadRefused::NoMemory),
+    let used = passed + ran.took;
+    let Some(reason) = ran.stop else {
+        return Ok(Fed::Whole { used });
+    };
+    if !is_truncated(reason) {
+        return Err(refused(machine.at, reason));
     }
+    let Ok(()) = kept.try_extend_from_slice(&piece[used..]) else {
+        unreachable!()
+    };
+    Ok(Fed::More)
+}
+
+/// Reads on with a piece behind the bytes that are kept.
+fn read_on(
+    machine: &mut Machine,
+    kept: &mut ArrayVec<u8, MOST>,
+    piece: &[u8],
+) -> Result<Fed, ReadRefused>
+    requires { (bytes : List ℕ) × IsWaiting machine.old bytes kept.old.items }
+    ensures { (bytes : List ℕ) → IsWaiting machine.old bytes kept.old.items → ReadsOn machine.old.want (bytes ++ piece.now) piece.now result machine.new kept.new.items }
+{
+    if kept.is_empty() {
+        return read_piece(machine, kept, piece, 0);
+    }
+    let before = kept.len();
+    let room = piece.len().min(MOST - before);
+    let Ok(()) = kept.try_extend_from_slice(&piece[..room]) else {
+        unreachable!()
+    };
+    let Ok(ran) = machine.run(kept.as_slice()) else {
+        return Err(ReadRefused::NoMemory);
+    };
+    let Some(reason) = ran.stop else {
+        kept.clear();
+        return Ok(Fed::Whole {
+            used: ran.took - before,
+        });
+    };
+    if !is_truncated(reason) {
+        return Err(refused(machine.at, reason));
+    }
+    if ran.took < before {
+        return Ok(Fed::More);
+    }
+    kept.clear();
+    read_piece(machine, kept, piece, ran.took - before)
 }
 
 /// Reads the first piece.
 fn read_first(
     alloc: Global,
     machine: &mut Machine,
-    bytes: &mut Vec<u8>,
+    kept: &mut ArrayVec<u8, MOST>,
     piece: &[u8],
 ) -> Result<Fed, ReadRefused>
-    requires { bytes.old.items ≡ [] }
-    ensures { ReadsOn machine.old.want bytes.old.items piece.now result machine.new bytes.new.items }
+    requires { kept.old.items ≡ [] }
+    ensures { ReadsOn machine.old.want piece.now piece.now result machine.new kept.new.items }
 {
     match Machine::new(alloc, machine.want) {
         Ok(made) => {
             *machine = made;
-            read_on(machine, bytes, piece)
+            read_piece(machine, kept, piece, 0)
         }
         Err(_) => Err(ReadRefused::NoMemory),
     }
@@ -113,7 +158,7 @@ fn read_first(
 impl Reader {
     /// Before the first byte. Takes no memory.
     pub fn new(alloc: Global, want: Want) -> Reader
-        ensures { result ≡ reading want [] }
+        ensures { HasRead result (reading want []) }
     {
         Reader {
             alloc,
@@ -122,18 +167,19 @@ impl Reader {
                 want,
                 at: 0,
                 stack: Vec::new(alloc),
+                draft: Draft::new(alloc),
             },
-            bytes: Vec::new(alloc),
+            kept: ArrayVec::new(),
         }
     }
 
-    /// How many bytes were fed, of a whole document its own; none behind a refusal.
-    pub fn count(&self) -> usize
-        ensures { result ≡ length (bytes_of self.now) }
+    /// How many bytes are kept: at most 512, and none but while a document goes on.
+    pub fn kept(&self) -> usize
+        ensures { (progress : Progress) → HasRead self.now progress → KeepsFor progress result }
     {
         match self.stage {
-            Stage::Over(_) => 0,
-            Stage::Fresh | Stage::Reading | Stage::Whole => self.bytes.len(),
+            Stage::Reading => self.kept.len(),
+            Stage::Fresh | Stage::Whole | Stage::Over(_) => 0,
         }
     }
 
@@ -144,51 +190,53 @@ impl Reader {
     /// `At` where the bytes are refused whatever follows, or follow a whole document, and `NoMemory`.
     /// After either every call answers the same.
     pub fn feed(&mut self, piece: &[u8]) -> Result<Fed, ReadRefused>
-        ensures on { (want : Want) (bytes : List ℕ) → self.old ≡ reading want bytes → FeedsOn want bytes piece.now result self.new }
-        ensures behind { (want : Want) (bytes : List ℕ) → self.old ≡ whole want bytes → FeedsBehind want bytes piece.now result self.new }
-        ensures again { (refused : Refused) → self.old ≡ over refused → (result ≡ Err (refusals.At refused)) × (self.new ≡ over refused) }
-        ensures spent { self.old ≡ spent → (result ≡ Err refusals.NoMemory) × (self.new ≡ spent) }
+        ensures { (before : Progress) → HasRead self.old before → Feeds before piece.now result self.new }
     {
         match self.stage {
             Stage::Over(refused) => Err(refused),
             Stage::Whole if piece.is_empty() => Ok(Fed::Whole { used: 0 }),
             Stage::Whole => {
-                let refused = refused(self.bytes.len(), Reason::Trailing);
+                let refused = refused(self.machine.at, Reason::Trailing);
                 self.stage = Stage::Over(refused);
                 Err(refused)
             }
             Stage::Fresh => {
-                let fed = read_first(self.alloc, &mut self.machine, &mut self.bytes, piece);
+                let fed = read_first(self.alloc, &mut self.machine, &mut self.kept, piece);
                 self.stage = stage_after(fed);
                 fed
             }
             Stage::Reading => {
-                let fed = read_on(&mut self.machine, &mut self.bytes, piece);
+                let fed = read_on(&mut self.machine, &mut self.kept, piece);
                 self.stage = stage_after(fed);
                 fed
             }
         }
     }
 
-    /// The document that the bytes fed spell.
+    /// The document that the bytes fed spell; takes no memory.
     ///
     /// # Errors
     ///
     /// `At` where more bytes of a document may come, with the place at which they are missing, and
-    /// where a piece was refused; `NoMemory` where a piece was answered so, or where the document
-    /// finds no memory.
+    /// where a piece was refused; `NoMemory` where a piece was answered so.
     pub fn finish(self) -> Result<Doc, ReadRefused>
-        ensures cut { (want : Want) (bytes : List ℕ) → self ≡ reading want bytes → IsCut want bytes result }
-        ensures document { (want : Want) (bytes : List ℕ) → self ≡ whole want bytes → IsRead want bytes result }
-        ensures again { (refused : Refused) → self ≡ over refused → result ≡ Err (refusals.At refused) }
-        ensures spent { self ≡ spent → result ≡ Err refusals.NoMemory }
+        ensures { (progress : Progress) → HasRead self progress → Gives progress result }
     {
-        match self.stage {
+        let Reader {
+            alloc: _,
+            stage,
+            machine,
+            kept: _,
+        } = self;
+        let at = machine.at;
+        let document = machine.into_document();
+        match stage {
             Stage::Over(refused) => Err(refused),
-            Stage::Fresh | Stage::Reading => Err(refused(self.machine.at, Reason::Truncated)),
-            Stage::Whole => match build(self.alloc, self.machine.want, self.bytes.as_slice()) {
-                Ok(doc) => Ok(doc),
-                Err(_) => Err(ReadRefused::NoMemory),
+            Stage::Fresh => Err(refused(at, Reason::Truncated)),
+            Stage::Reading => Err(refused(at, Reason::Truncated)),
+            Stage::Whole => match document {
+                Some(document) => Ok(document),
+                None => unreachable!(),
             },
         }
     }
