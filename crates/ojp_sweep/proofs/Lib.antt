@@ -1,0 +1,10 @@
+pub mod RideFacts
+pub mod TransferFacts
+pub mod LabelFacts
+pub mod SweepFacts
+pub mod ChainFacts
+pub mod RoundFacts
+pub mod NextFacts
+pub mod BeginFacts
+pub mod SearchFacts
+pub mod RowFacts

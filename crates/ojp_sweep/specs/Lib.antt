@@ -1,0 +1,6 @@
+pub mod Rides
+pub mod Labels
+pub mod Sweeps
+pub mod Searches
+pub mod Rows
+pub mod Rounds

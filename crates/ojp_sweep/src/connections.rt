@@ -1,0 +1,115 @@
+//! The connections of a network: the hops of its journeys, in the order of their departures.
+
+ghost use Rattle.std.specs.Prelude.{◌≡◌, ℕ, ◌+◌, ◌<◌, ◌^◌, length, slice_index, IfOk};
+ghost use Rattle.ojp_sweep.specs.Rows.{AreRows, AreChanges, IsNetworkOf, AreKeys, AreOfRows, AreGathered};
+
+use std::alloc::{AllocError, Global};
+
+/// A hop of a journey from a call to the next: its ends are places, its times offsets in a day.
+#[derive(Clone, Copy, Debug)]
+pub struct Connection {
+    pub departs: u32,
+    pub arrives: u32,
+    pub from: u32,
+    pub to: u32,
+    pub journey: u32,
+    pub position: u32,
+}
+
+/// A walk after a ride from one place to another, in seconds.
+#[derive(Clone, Copy, Debug)]
+pub struct Walk {
+    pub from: u32,
+    pub to: u32,
+    pub seconds: u32,
+}
+
+/// The connections by departure, the service of each journey, the change time of each place in seconds, and
+/// the walks: those from one place stand together, from its first up to the first of the next place.
+#[derive(Drop)]
+pub struct Connections {
+    pub sorted: Vec<Connection>,
+    pub services: Vec<u32>,
+    pub changes: Vec<u32>,
+    pub walks: Vec<Walk>,
+    pub firsts: Vec<usize>,
+}
+
+/// Four days that are numbered from 0: the moment at which each begins, and for each service, one after
+/// the other, whether it runs on each of them.
+#[derive(Drop)]
+pub struct Days {
+    pub bases: Vec<u64>,
+    pub running: Vec<bool>,
+}
+
+/// Where a search begins: the place, and the moment from which one may leave it. In a round one boards by what
+/// the round before made ready alone, and so chains have one ride more; else by all that is found.
+#[derive(Clone, Copy, Debug)]
+pub struct Asked {
+    pub origin: usize,
+    pub start: u64,
+    pub in_round: bool,
+}
+
+/// More than there are rows.
+const ROWS: u64 = 4_294_967_296;
+
+impl Connections {
+    /// The network of the rows, without walks.
+    pub fn new(
+        alloc: Global,
+        rows: &[Connection],
+        services: Vec<u32>,
+        changes: Vec<u32>,
+    ) -> Result<Connections, AllocError>
+        requires rows { AreRows rows.now (length changes.items) (length services.items) }
+        requires changes { AreChanges changes.items }
+        requires places { length changes.items < 2 ^ 32 }
+        ensures { IfOk result (λ net. IsNetworkOf net rows.now services.items changes.items) }
+    {
+        let mut keys = keys_of(alloc, rows)?;
+        keys.sort()?;
+        let sorted = gather(alloc, rows, keys.as_slice())?;
+        let firsts = zeros(alloc, changes.len() + 1)?;
+        Ok(Connections {
+            sorted,
+            services,
+            changes,
+            walks: Vec::new(alloc),
+            firsts,
+        })
+    }
+}
+
+/// A number for each row that rises by departure and then by row.
+fn keys_of(alloc: Global, rows: &[Connection]) -> Result<Vec<u64>, AllocError>
+    requires { length rows.now + 1 < 2 ^ 32 }
+    ensures { IfOk result (λ keys. AreKeys rows.now keys.items (length rows.now)) }
+{
+    let mut keys = Vec::with_capacity(alloc, rows.len())?;
+    'rows: for (index, row) in rows.iter().enumerate() {
+        keys.push(u64::from(row.departs) * ROWS + index as u64)?;
+    }
+    Ok(keys)
+}
+
+/// The rows of the keys.
+fn gather(alloc: Global, rows: &[Connection], keys: &[u64]) -> Result<Vec<Connection>, AllocError>
+    requires { AreOfRows rows.now keys.now }
+    ensures { IfOk result (λ sorted. AreGathered rows.now keys.now sorted.items (length keys.now)) }
+{
+    let mut sorted = Vec::with_capacity(alloc, keys.len())?;
+    'keys: for key in keys {
+        sorted.push(rows[(*key % ROWS) as usize])?;
+    }
+    Ok(sorted)
+}
+
+/// So many zeros.
+fn zeros(alloc: Global, count: usize) -> Result<Vec<usize>, AllocError>
+    ensures count { IfOk result (λ zeros. length zeros.items ≡ count) }
+    ensures zero { IfOk result (λ zeros. (i : ℕ) → i < count → slice_index zeros.items i ≡ 0) }
+{
+    Vec::from_elem(alloc, 0, count)
+}
