@@ -8,7 +8,7 @@ use Rattle.ojp_values.specs.Texts.{Text, same}
 use Rattle.ojp_values.specs.declared.trips.Leg.{Leg}
 use Rattle.ojp_timetable.specs.Tables.{Timetable, Place, place_of, change_of}
 use Rattle.ojp_timetable.specs.Runs.{IsWell, IsLeg, moment, day_long}
-use Rattle.ojp_timetable.specs.Journeys.{GoesOn, Leads, Regional, ArrivesWithin}
+use Rattle.ojp_timetable.specs.Journeys.{Standing, alighted, reached, AllFollow, HasTime, Follows, Leads, Regional, ArrivesWithin}
 use Rattle.ojp_scan.specs.declared.hops.Hop.{Hop}
 use Rattle.ojp_scan.specs.declared.networks.Network.{Network}
 use Rattle.ojp_scan.specs.declared.labels.Asked.{Asked}
@@ -126,21 +126,21 @@ module _ (arrivals : List ℕ) (network : Network) (table : Timetable) (asked : 
         bound = let b = closed r.ride r.is_ride in_time in let e = r.matches.arrives in omega arith;
       }
 
-  goes-on-labelled : (last : Leg) (legs : List Leg) (d : Text) (a : ℕ) → IsLabelledBy arrivals network last.alight last.arrives → GoesOn table last legs d a → IsLabelledBy arrivals network d a
-  goes-on-labelled last [] d a label goes =
-      subst (λ m. IsLabelledBy arrivals network d m) goes.1 (subst (λ s. IsLabelledBy arrivals network s last.arrives) goes.0 label)
-  goes-on-labelled last (leg ∷ legs) d a label goes =
-      let follows = goes.1 in
-      let r = ride-of-leg network table net leg goes.0 in
-      let there : IsPlace network.stops.keys r.ride.board last.alight = subst (λ s. IsPlace network.stops.keys r.ride.board s) follows.0 r.matches.board in
-      let same_place = net.apart r.ride.board label.place last.alight there label.is_place in
-      let known = net.changes.is r.ride.board last.alight there in
-      let change = same_Some follows.1 (slice_index network.changes.items r.ride.board) (sym follows.2 ∙ known) in
-      let passed = follows.3 in
-      let bound : slice_index arrivals r.ride.board ≤ last.arrives = subst (λ k. slice_index arrivals k ≤ last.arrives) (sym same_place) label.bound in
+  goes-on-labelled : (at : Standing) (legs : List Leg) → IsLabelledBy arrivals network at.stop at.moment → AllFollow (Follows table) at legs → IsLabelledBy arrivals network (reached at legs).stop (reached at legs).moment
+  goes-on-labelled at [] label goes = label
+  goes-on-labelled at (leg ∷ legs) label goes =
+      let follows : Follows table at leg = goes.0 in
+      let time : HasTime table at leg = follows.2 in
+      let r = ride-of-leg network table net leg follows.0 in
+      let there : IsPlace network.stops.keys r.ride.board at.stop = subst (λ s. IsPlace network.stops.keys r.ride.board s) follows.1 r.matches.board in
+      let same_place = net.apart r.ride.board label.place at.stop there label.is_place in
+      let known = net.changes.is r.ride.board at.stop there in
+      let change = same_Some time.0 (slice_index network.changes.items r.ride.board) (sym time.1 ∙ known) in
+      let passed = time.2 in
+      let bound : slice_index arrivals r.ride.board ≤ at.moment = subst (λ k. slice_index arrivals k ≤ at.moment) (sym same_place) label.bound in
       let departs = r.matches.departs in
       let in_time : IsInTime arrivals network asked r.ride.board r.ride.departs = inr (omega arith) in
-      goes-on-labelled leg legs d a (leg-labelled leg r in_time) goes.2
+      goes-on-labelled (alighted leg) legs (leg-labelled leg r in_time) goes.1
 
   -- where a journey arrives, a label is not above the arrival
   pub leads-labelled : (o : Text) (t : ℕ) (legs : List Leg) (d : Text) (a : ℕ) → IsOriginAt network asked.origin o → asked.start ≡ t → Leads table o t legs d a → IsLabelledBy arrivals network d a
@@ -152,12 +152,8 @@ module _ (arrivals : List ℕ) (network : Network) (table : Timetable) (asked : 
       let departs = r.matches.departs in
       let late = leads.2 in
       let in_time : IsInTime arrivals network asked r.ride.board r.ride.departs = inl (here, omega arith) in
-      goes-on-labelled leg legs d a (leg-labelled leg r in_time) leads.3
-
--- legs that lead on from the leg's end
-onward-goes : (table : Timetable) (leg : Leg) (legs : List Leg) (d : Text) (a : ℕ) → Onward table leg.alight leg.arrives legs d a → GoesOn table leg legs d a
-onward-goes table leg [] d a h = h
-onward-goes table leg (next ∷ legs) d a h = h
+      let label : IsLabelledBy arrivals network (reached (alighted leg) legs).stop (reached (alighted leg) legs).moment = goes-on-labelled (alighted leg) legs (leg-labelled leg r in_time) leads.3 in
+      subst (λ m. IsLabelledBy arrivals network d m) leads.4.1 (subst (λ s. IsLabelledBy arrivals network s (reached (alighted leg) legs).moment) leads.4.0 label)
 
 -- a change time is that of a place of the table, and so at least a second
 change-low : (table : Timetable) → IsWell table → (stop : Text) (change : ℕ) → change_of table stop ≡ Some change → 1 ≤ change
@@ -189,11 +185,11 @@ module _ (arrivals : List ℕ) (hops : List (Option Hop)) (network : Network) (t
   same-stop : leg.alight ≡ walking.stop
   same-stop = one-read network.stops.keys x.ride.alight place leg.alight walking.stop x.alights matches.alight walking.at
 
-  goes : GoesOn table leg legs d a
+  goes : Onward table (alighted leg) legs d a
   goes =
       let arrived : leg.arrives ≡ slice_index arrivals place = sym matches.arrives ∙ x.arrives in
-      onward-goes table leg legs d a
-      (subst (λ m. Onward table leg.alight m legs d a) (sym arrived) (subst (λ s. Onward table s (slice_index arrivals place) legs d a) (sym same-stop) walking.onward))
+      subst (λ m. Onward table (record { region = table.region; stop = leg.alight; moment = m }) legs d a) (sym arrived)
+      (subst (λ s. Onward table (record { region = table.region; stop = s; moment = slice_index arrivals place }) legs d a) (sym same-stop) walking.onward)
 
   pub walk-begins : x.ride.board ≡ asked.origin → asked.start ≤ x.ride.departs → LeadsFrom network table asked (leg ∷ legs) d a
   walk-begins origin late =
@@ -215,7 +211,7 @@ module _ (arrivals : List ℕ) (hops : List (Option Hop)) (network : Network) (t
           reached = omega arith;
           stop = leg.board;
           at = matches.board;
-          onward = (leg-of-is table (hop_of x.ride) x.is_ride.hop, (refl, slice_index network.changes.items x.ride.board, known, passed), goes);
+          onward = (((leg-of-is table (hop_of x.ride) x.is_ride.hop, refl, (slice_index network.changes.items x.ride.board, known, passed)), goes.0), goes.1);
         },
         omega arith,
       )
@@ -263,8 +259,8 @@ walk arrivals hops network table asked search right (suc n) place legs d a fuel 
 -- a walk that came to the origin is a journey from there
 pub leads-from : (network : Network) (table : Timetable) (asked : Asked) (o : Text) (t : ℕ) (legs : List Leg) (d : Text) (a : ℕ) → IsOriginAt network asked.origin o → asked.start ≡ t → LeadsFrom network table asked legs d a → Leads table o t legs d a
 leads-from network table asked o t [] d a origin start leads = absurd leads
-leads-from network table asked o t (leg ∷ legs) d a origin start leads =
-    (leads.0, origin.is leg.board leads.1, (let late = leads.2 in omega arith), leads.3)
+leads-from network table asked o t (leg ∷ legs) d a origin start (ride, place, late, onward) =
+    (ride, origin.is leg.board place, omega (arith, late), onward.0, onward.1)
 
 -- what a scan knows of a stop
 module _ (scan : Scan) (table : Timetable) (o : Text) (t : ℕ) (found : IsScanOf scan table o t) (stop : Text) where
@@ -301,7 +297,7 @@ module _ (scan : Scan) (table : Timetable) (o : Text) (t : ℕ) (found : IsScanO
           reached = omega arith;
           stop = stop;
           at = at;
-          onward = (refl, refl);
+          onward = (tt, (refl, refl));
         })
 
     pub leads-regional : place ≢ scan.asked.origin → slice_index scan.labels.arrivals.items place ≤ t + day_long → (legs : List Leg) → LeadsFrom scan.network table scan.asked legs stop (slice_index scan.labels.arrivals.items place)

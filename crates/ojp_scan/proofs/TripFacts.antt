@@ -8,9 +8,9 @@ use Rattle.ojp_values.specs.declared.trips.Leg.{Leg}
 use Rattle.ojp_values.specs.declared.trips.Trip.{Trip}
 use Rattle.ojp_timetable.specs.Tables.{Timetable, has}
 use Rattle.ojp_timetable.specs.Runs.{IsWell}
-use Rattle.ojp_timetable.specs.Journeys.{Follows, GoesOn, Regional, ArrivesWithin}
+use Rattle.ojp_timetable.specs.Journeys.{alighted, reached, Regional, ArrivesWithin}
 use Rattle.ojp_timetable.specs.Answers.{Agrees, IsEarliestTrip, targets_fault}
-use Rattle.ojp_timetable.proofs.RideFacts.{leg_forward}
+use Rattle.ojp_timetable.proofs.RideFacts.{leg_forward, follow_forward}
 use Rattle.ojp_timetable.proofs.LegCounts.{legs_counted}
 use Rattle.ojp_scan.specs.Trips.{IsWithinDay}
 
@@ -41,21 +41,12 @@ module _ (table : Timetable) (o d : Text) where
   unfolding fault-by
   fault-none e h k = by-tests false true true e h k
 
--- the last leg arrives not after the end
-goes-later : (table : Timetable) → IsWell table → (last : Leg) (legs : List Leg) (d : Text) (a : ℕ) → GoesOn table last legs d a → last.arrives ≤ a
-goes-later table well last [] d a goes = let e = goes.1 in omega arith
-goes-later table well last (leg ∷ legs) d a goes =
-    let later = goes-later table well leg legs d a goes.2 in
-    let ride = leg_forward table leg well goes.0 in
-    let follows : Follows table last.alight last.arrives leg = goes.1 in
-    let passed = follows.3 in
-    omega arith
-
 -- the legs of a journey are within a day
 pub within-day : (table : Timetable) → IsWell table → (o : Text) (t : ℕ) (d : Text) (a : ℕ) (legs : List Leg) → Regional table o t d a legs → IsWithinDay legs a
 within-day table well o t d a [] journey = absurd journey.2
 within-day table well o t d a (leg ∷ legs) journey =
-    let later = goes-later table well leg legs d a journey.2.3 in
+    let later : leg.arrives ≤ (reached (alighted leg) legs).moment = follow_forward table (alighted leg) legs well journey.2.3 in
+    let at : (reached (alighted leg) legs).moment ≡ a = journey.2.4.1 in
     let ride = leg_forward table leg well journey.2.0 in
     let leaves = journey.2.2 in
     let ends = journey.1 in
