@@ -1,1 +1,5 @@
 pub mod Book
+pub mod Kept
+pub mod Places
+pub mod Joins
+pub mod Disputes

@@ -1,6 +1,15 @@
 //! The book: what the exchange points of a list of regions declare.
 #![tactic(auto)]
 
+pub mod book;
+mod collected;
+mod joins;
+mod places;
+pub mod points;
+pub mod refusals;
 pub mod region_points;
 
+pub use book::Book;
+pub use points::points_of;
+pub use refusals::BookRefused;
 pub use region_points::RegionPoints;

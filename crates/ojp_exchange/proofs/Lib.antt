@@ -1,0 +1,10 @@
+pub mod BookFacts
+pub mod RisingFacts
+pub mod PlaceFacts
+pub mod SortFacts
+pub mod CodeFacts
+pub mod StopFacts
+pub mod MadeFacts
+pub mod JoinFacts
+pub mod StretchFacts
+pub mod WellBook

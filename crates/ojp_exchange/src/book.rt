@@ -1,0 +1,125 @@
+//! The book of a list of regions.
+
+ghost use Rattle.std.specs.Prelude.{◌≡◌, length, IfOk, IfErr, MatchOption};
+ghost use Rattle.ojp_exchange.specs.Book.{HasChange};
+ghost use Rattle.ojp_exchange.specs.Kept.{ArePointsAt, HasNoChange, IsWellBook};
+ghost use Rattle.ojp_exchange.specs.Joins.{AreWellLists, IsJoined, IsRefused};
+
+use crate::collected::{copies_at, regions_of, sorted_codes, sorted_points};
+use crate::joins::{first_dispute, first_twice, has_code, stops_in};
+use crate::places::{change_from, count_before, count_through};
+use crate::refusals::BookRefused;
+use crate::region_points::RegionPoints;
+use ojp_values::{Code, List, NoMemory, Point, StopRef};
+use std::alloc::Global;
+use std::marker::Model;
+
+/// The most regions of a book, and the most points.
+const REGIONS: usize = 32;
+
+const POINTS: usize = 2_000;
+
+/// What a list of regions declares of its exchange points. It is seen as three rising lists: the
+/// codes, the exchange points of each region, and the neighbours that each declares.
+#[derive(Drop)]
+pub struct Book {
+    codes: Vec<Code>,
+    points: Vec<Point>,
+    regions: Vec<Code>,
+}
+
+impl Model for Book {
+    ghost use Rattle.ojp_exchange.specs.Book.{Book as Flat};
+    ghost use Rattle.ojp_exchange.specs.Kept.{book_of, IsWhole};
+
+    ghost Value = { Flat };
+
+    ghost view = { λ b. book_of b.codes.items b.points.items };
+
+    ghost invariant = { λ b. IsWhole b.codes.items b.points.items b.regions.items };
+}
+
+impl Book {
+    ghost use Rattle.ojp_exchange.specs.Kept.{regions_of};
+
+    /// The book of the lists, or the first reason why they make none.
+    pub fn join(alloc: Global, lists: &[RegionPoints]) -> Result<Book, BookRefused>
+        requires { AreWellLists lists.now }
+        ensures joined { IfOk result (IsJoined lists.now) }
+        ensures refused { IfErr result (IsRefused lists.now) }
+    {
+        let Ok(codes) = sorted_codes(alloc, lists) else {
+            return Err(BookRefused::NoMemory);
+        };
+        if let Some(code) = first_twice(codes.as_slice()) {
+            return Err(BookRefused::TwiceRegion(code));
+        }
+        if codes.as_slice().len() > REGIONS {
+            return Err(BookRefused::TooMany);
+        }
+        let Ok(points) = sorted_points(alloc, lists) else {
+            return Err(BookRefused::NoMemory);
+        };
+        if stops_in(points.as_slice()) > POINTS {
+            return Err(BookRefused::TooMany);
+        }
+        if let Some(found) = first_dispute(codes.as_slice(), points.as_slice()) {
+            return Err(BookRefused::Disagree {
+                point: found.point,
+                left: found.left,
+                right: found.right,
+            });
+        }
+        let Ok(regions) = regions_of(alloc, points.as_slice()) else {
+            return Err(BookRefused::NoMemory);
+        };
+        Ok(Book {
+            codes,
+            points,
+            regions,
+        })
+    }
+
+    /// The regions of the book, rising.
+    pub fn regions(&self) -> &[Code]
+        ensures { result.now ≡ self.now.codes }
+    {
+        self.codes.as_slice()
+    }
+
+    /// The time that the region `to` declared for a change at the point from the region `from`.
+    pub fn change(&self, point: StopRef, from: Code, to: Code) -> Option<u32>
+        ensures { MatchOption result (HasNoChange self.now point from to) (λ change. HasChange self.now point from to change) }
+    {
+        if !has_code(self.codes.as_slice(), &from) {
+            return None;
+        }
+        change_from(self.points.as_slice(), &point, &to, &from)
+    }
+
+    /// The regions that declare the point, rising.
+    #[tactic(auto, unfolding(crate::specs::Kept::regions_of))]
+    pub fn regions_at(&self, point: StopRef) -> &[Code]
+        ensures { result.now ≡ regions_of self.now point }
+    {
+        let points = self.points.as_slice();
+        let from = count_before(points, &point);
+        let to = count_through(points, &point, from);
+        &self.regions.as_slice()[from..to]
+    }
+
+    /// Copies of all exchange points by stop and region, or of those at the place.
+    pub fn points(&self, alloc: Global, place: Option<StopRef>) -> Result<List<Point>, NoMemory>
+        ensures { IfOk result (ArePointsAt self.now place) }
+    {
+        copies_at(alloc, self.points.as_slice(), place)
+    }
+
+    /// The book is well: its lists rise, it is within its limits and agreed, its spots are exchange
+    /// points of its regions, and each link is declared by a region that has its spot there.
+    pub fn is_well(&self)
+        ensures { IsWellBook self.now }
+    {
+        let _ = &self.regions;
+    }
+}
