@@ -25,15 +25,13 @@ use Rattle.ojp_values.specs.declared.replies.PointsReply.TheVariants as points_r
 use Rattle.ojp_values.specs.declared.replies.Delivery.{Delivery}
 use Rattle.ojp_values.specs.declared.replies.Delivery.TheVariants as deliveries
 use Rattle.ojp_timetable.specs.Runs.{day_long}
+use Rattle.ojp_timetable.specs.Journeys.{Standing, IsAt, alighted, reached, AllFollow}
 use Rattle.ojp_timetable.specs.Answers.{Agrees, event_lt}
 use Rattle.ojp_timetable.specs.Points.{IsPointOf, point_lt}
 
--- after the last leg each next leg of the region boards where the one before alighted, a second later at
--- least; the last alights at the stop d at a
-abbrev pub FitsOn : Text → Leg → List Leg → Text → ℕ → Type 0
-FitsOn region last [] d a = (last.alight ≡ d) × (last.arrives ≡ a)
-FitsOn region last (leg ∷ legs) d a =
-    (leg.region ≡ region) × (leg.board ≡ last.alight) × (last.arrives < leg.departs) × (leg.departs ≤ leg.arrives) × FitsOn region leg legs d a
+-- the next leg fits: it is of the region and boards where one stands, a second later at least
+abbrev pub FitsNext : Text → Standing → Leg → Type 0
+FitsNext region at leg = (leg.region ≡ region) × (leg.board ≡ at.stop) × (at.moment < leg.departs) × (leg.departs ≤ leg.arrives)
 
 -- the trip leads by legs of the region from o, not before t, to d within the requested day, and its totals
 -- are those of its legs
@@ -45,7 +43,8 @@ pub record FitsTrip (region o : Text) (t : ℕ) (d : Text) (trip : Trip) : Type 
   pub boards : first.board ≡ o
   pub leaves : t ≤ first.departs
   pub rides : first.departs ≤ first.arrives
-  pub goes_on : FitsOn region first rest d trip.end
+  pub follow : AllFollow (FitsNext region) (alighted first) rest
+  pub ends : IsAt (reached (alighted first) rest) d trip.end
   pub within : trip.end ≤ t + day_long
 
 -- the result is a fitting trip, or says that there is none to this target
