@@ -11,12 +11,14 @@ use Rattle.ojp_labels.specs.declared.queries.Query.TheVariants.{Check, Reach}
 use Rattle.ojp_labels.specs.declared.queries.Entry.{Entry}
 use Rattle.ojp_labels.specs.Records.{is_told}
 use Rattle.ojp_labels.specs.Starts.{known_starts, best}
-use Rattle.ojp_labels.specs.Wanted.{is_before, may_matter, reach_at, Known, Unknown, Unheard, state, check, wanted_pairs, wanted}
-use Rattle.ojp_labels.specs.Headline.{StartsFall, BestFalls, NeverAgain}
-use Rattle.ojp_labels.proofs.ListFacts.{LeastBelow, least_below, least_among}
+use Rattle.ojp_labels.specs.Wanted.{is_before, can_improve, reach_at, wanted_pairs, wanted, Improves, PairWanted}
+use Rattle.ojp_values.proofs.ListFacts.{LeastBelow, least_below, least_among}
 use Rattle.ojp_labels.proofs.StartFacts.{arrivals_more, known_starts_more, BestBelow, best_below, BestIs, best_is}
 use Rattle.ojp_labels.proofs.RecordFacts.{untold_before}
-use Rattle.ojp_labels.proofs.WantedFacts.{Matters, PairWanted, pair_wanted, is_pair_wanted, WantedBy, OriginCheck, TargetCheck, AtPair, wanted_by, is_wanted_by, check_is, state_more, state_before}
+use Rattle.ojp_labels.proofs.WantedFacts.{pair_wanted, is_pair_wanted, WantedBy, wanted_by, is_wanted_by, check_is}
+use Rattle.ojp_labels.specs.Places.{Known, Unknown, Unheard, place_state, checks_in, check}
+use Rattle.ojp_labels.specs.Laws.{StartsFall, BestFalls, NeverAgain}
+use Rattle.ojp_labels.proofs.PlaceFacts.{OriginCheck, TargetCheck, AtPair, state_more, state_before}
 
 pub starts_fall : StartsFall
 starts_fall book ask told more stop region start e =
@@ -39,9 +41,9 @@ before_later start (Some value) later falls e =
     let below : now.0 ≤ value = now.2 in
     lt-ltb start value (omega arith)
 
--- a start that may matter later may matter now
-pub may_before : (book : Book) (ask : TripAsk) (told more : List Entry) (start : ℕ) → may_matter ask (best book ask (told ++ more)) start ≡ true → may_matter ask (best book ask told) start ≡ true
-may_before book ask told more start e =
+-- a start that can improve later can improve now
+pub can_before : (book : Book) (ask : TripAsk) (told more : List Entry) (start : ℕ) → can_improve ask (best book ask (told ++ more)) start ≡ true → can_improve ask (best book ask told) start ≡ true
+can_before book ask told more start e =
     let parts : (is_before start (best book ask (told ++ more)) ≡ true) × ((nat_le start (ask.start + day_long) && nat_le start last_moment) ≡ true) = and_parts _ _ e in
     and_from _ _ (before_later start (best book ask told) (best book ask (told ++ more)) (best_falls book ask told more) parts.0) parts.1
 
@@ -62,7 +64,7 @@ known_heard e = cc
 
 pair_again :
     (book : Book) (ask : TripAsk) (told more rest : List Entry) (query : Query)
-    → state book told ask.origin ≡ Known → state book told ask.target ≡ Known
+    → place_state book (checks_in told) ask.origin ≡ Known → place_state book (checks_in told) ask.target ≡ Known
     → PairWanted book ask told query → PairWanted book ask ((told ++ more) ++ rest) query → Among query (wanted book ask (told ++ more))
 pair_again book ask told more rest query o t first last =
     let queries : Reach first.pair.region first.pair.stop first.start ≡ Reach last.pair.region last.pair.stop last.start = sym first.is ∙ last.is in
@@ -71,20 +73,20 @@ pair_again book ask told more rest query o t first last =
     let starts : first.start ≡ last.start = cc in
     let last_least : least (known_starts book ask ((told ++ more) ++ rest) first.pair.stop first.pair.region) ≡ Some first.start =
     subst (λ (r : Text). least (known_starts book ask ((told ++ more) ++ rest) first.pair.stop r) ≡ Some first.start) (sym regions)
-    (subst (λ (s : Text). least (known_starts book ask ((told ++ more) ++ rest) s last.pair.region) ≡ Some first.start) (sym stops) (last.matters.is_least ∙ ap Some (sym starts))) in
-    let may_last : may_matter ask (best book ask ((told ++ more) ++ rest)) first.start ≡ true =
-    subst (λ (n : ℕ). may_matter ask (best book ask ((told ++ more) ++ rest)) n ≡ true) (sym starts) last.matters.may in
-    let matters : Matters book ask (told ++ more) first.pair first.start =
+    (subst (λ (s : Text). least (known_starts book ask ((told ++ more) ++ rest) s last.pair.region) ≡ Some first.start) (sym stops) (last.improves.is_least ∙ ap Some (sym starts))) in
+    let may_last : can_improve ask (best book ask ((told ++ more) ++ rest)) first.start ≡ true =
+    subst (λ (n : ℕ). can_improve ask (best book ask ((told ++ more) ++ rest)) n ≡ true) (sym starts) last.improves.can in
+    let improves : Improves book ask (told ++ more) first.pair first.start =
     record {
-      target = first.matters.target;
-      has_target = first.matters.has_target;
-      is_least = least_between book ask told more rest first.pair.stop first.pair.region first.start first.matters.is_least last_least;
-      may = may_before book ask (told ++ more) rest first.start may_last;
+      target = first.improves.target;
+      has_target = first.improves.has_target;
+      is_least = least_between book ask told more rest first.pair.stop first.pair.region first.start first.improves.is_least last_least;
+      can = can_before book ask (told ++ more) rest first.start may_last;
     } in
     let untold : is_told (told ++ more) (reach_at first.pair first.start) ≡ false =
     subst (λ (q : Query). is_told (told ++ more) q ≡ false) first.is (untold_before (told ++ more) rest query last.untold) in
     let still : Among (reach_at first.pair first.start) (wanted_pairs book ask (told ++ more)) =
-    is_pair_wanted book ask (told ++ more) first.pair first.start first.listed matters untold in
+    is_pair_wanted book ask (told ++ more) first.pair first.start first.listed improves untold in
     is_wanted_by book ask (told ++ more) query
     (AtPair (state_more book told more ask.origin Known known_heard o) (state_more book told more ask.target Known known_heard t)
     (subst (λ (q : Query). Among q (wanted_pairs book ask (told ++ more))) (sym first.is) still))

@@ -1,20 +1,19 @@
 -- Which queries a record has, and that one told in turn has each query at most once.
-use Rattle.std.proofs.Common.{◌≡◌, ◌≢◌, Bool, true, false, not, cond, ◌&&◌, List, [], ◌∷◌, ◌++◌, Option, Some, None, refl, sym, ◌∙◌, ap, subst, inl, inr}
+use Rattle.std.proofs.Common.{◌≡◌, Bool, true, false, not, cond, ◌&&◌, List, [], ◌∷◌, ◌++◌, Option, Some, None, refl, sym, ◌∙◌, ap, subst, inl, inr, append_assoc}
 use Rattle.std.proofs.lemmas.Bool.{true≢false, cases_Bool, and_parts, and_from, eqb-true, eq-eqb, not-true}
 use Rattle.ojp_values.specs.Lists.{Among}
-use Rattle.ojp_values.specs.Texts.{same}
+use Rattle.std.specs.List.{cons_option}
+use Rattle.ojp_values.specs.Texts.{Text, same}
 use Rattle.ojp_values.specs.declared.asks.TripAsk.{TripAsk}
-use Rattle.ojp_values.specs.declared.replies.Fault.TheVariants.{StopUnknown}
-use Rattle.ojp_values.specs.declared.replies.EventsReply.TheVariants as events_replies
 use Rattle.ojp_values.specs.declared.replies.Delivery.{Delivery}
-use Rattle.ojp_values.specs.declared.replies.Delivery.TheVariants as deliveries
 use Rattle.ojp_exchange.specs.Book.{Book}
 use Rattle.ojp_labels.specs.declared.queries.Query.{Query}
 use Rattle.ojp_labels.specs.declared.queries.Query.TheVariants.{Check, Reach}
 use Rattle.ojp_labels.specs.declared.queries.Entry.{Entry}
 use Rattle.ojp_labels.specs.Records.{same_query, is_told, has_reply, is_failed, Failed}
-use Rattle.ojp_labels.specs.Wanted.{PlaceState, Unheard, CheckLost, state_of_reply, state_from, IsOpen, ToldInTurn}
-use Rattle.ojp_labels.proofs.ListFacts.{Member, member_first, member_later, among_append_left, among_append_right, among_list_any, among_list_any_back}
+use Rattle.ojp_labels.specs.Places.{ToldCheck, check_of, checks_in, CheckFailed, reply_state, is_check, check_state}
+use Rattle.ojp_labels.specs.Told.{IsOpen, ToldInTurn}
+use Rattle.ojp_values.proofs.ListFacts.{Member, among_append_left, among_append_right, among_list_any, among_list_any_back}
 use Rattle.ojp_timetable.proofs.TextFacts.{same_is, is_same}
 
 pub same_query_is : (p q : Query) → same_query p q ≡ true → p ≡ q
@@ -84,43 +83,6 @@ is_failed_is told query (entry, listed, e, none) =
     among_list_any (λ (it : Entry). same_query it.query query && not (has_reply it.reply)) entry told listed
     (and_from _ _ (is_same_query entry.query query e) (ap (λ (reply : Option Delivery). not (has_reply reply)) none))
 
--- the state that a record tells of a check
-
-pub reply_heard : (reply : Option Delivery) → state_of_reply reply ≢ Unheard
-reply_heard None e = cc
-reply_heard (Some (deliveries.Events (events_replies.Fault (StopUnknown stop)))) e = cc
-reply_heard (Some reply) e = cc
-
--- an entry of the query, whose reply tells the state
-abbrev pub Tells : List Entry → Query → PlaceState → Type 0
-Tells told query s = Member told (λ (entry : Entry). (entry.query ≡ query) × (state_of_reply entry.reply ≡ s))
-
-state_told_step : (entry : Entry) (told : List Entry) (query : Query) (s : PlaceState) (b : Bool) → same_query entry.query query ≡ b → cond b (state_of_reply entry.reply) (state_from told query) ≡ s → (state_from told query ≡ s → Tells told query s) → Tells (entry ∷ told) query s
-state_told_step entry told query s true same_one e later = member_first entry told _ (same_query_is entry.query query same_one, e)
-state_told_step entry told query s false other e later = member_later entry told _ (later e)
-
-pub state_told : (told : List Entry) (query : Query) (s : PlaceState) → s ≢ Unheard → state_from told query ≡ s → Tells told query s
-state_told [] query s heard e = absurd (heard (sym e))
-state_told (entry ∷ told) query s heard e = state_told_step entry told query s (same_query entry.query query) refl e (state_told told query s heard)
-
-state_more_step : (reply before after s : PlaceState) (b : Bool) → cond b reply before ≡ s → (before ≡ s → after ≡ s) → cond b reply after ≡ s
-state_more_step reply before after s true e later = e
-state_more_step reply before after s false e later = later e
-
-pub state_from_more : (told more : List Entry) (query : Query) (s : PlaceState) → s ≢ Unheard → state_from told query ≡ s → state_from (told ++ more) query ≡ s
-state_from_more [] more query s heard e = absurd (heard (sym e))
-state_from_more (entry ∷ told) more query s heard e =
-    state_more_step (state_of_reply entry.reply) (state_from told query) (state_from (told ++ more) query) s (same_query entry.query query) e (state_from_more told more query s heard)
-
-unheard_step : (reply before after : PlaceState) (b : Bool) → (reply ≢ Unheard) → cond b reply after ≡ Unheard → (after ≡ Unheard → before ≡ Unheard) → cond b reply before ≡ Unheard
-unheard_step reply before after true heard e later = absurd (heard e)
-unheard_step reply before after false heard e later = later e
-
-pub unheard_before : (told more : List Entry) (query : Query) → state_from (told ++ more) query ≡ Unheard → state_from told query ≡ Unheard
-unheard_before [] more query e = refl
-unheard_before (entry ∷ told) more query e =
-    unheard_step (state_of_reply entry.reply) (state_from told query) (state_from (told ++ more) query) (same_query entry.query query) (reply_heard entry.reply) e (unheard_before told more query)
-
 -- told in turn: what was told is never told again
 
 later_untold : (book : Book) (ask : TripAsk) (told later : List Entry) (query : Query) (entry : Entry) → is_told told query ≡ true → ToldInTurn book ask told later → Among entry later → entry.query ≡ query → ⊥
@@ -132,32 +94,59 @@ later_untold book ask told (first ∷ later) query entry e turn (inl is) same_on
 later_untold book ask told (first ∷ later) query entry e turn (inr h) same_one =
     later_untold book ask (told ++ first ∷ []) later query entry (told_more told (first ∷ []) query e) turn.1 h same_one
 
-failed_state_step :
-    (book : Book) (ask : TripAsk) (told : List Entry) (entry : Entry) (later : List Entry) (query : Query) (b : Bool)
-    → same_query entry.query query ≡ b → ToldInTurn book ask told (entry ∷ later) → Failed (entry ∷ later) query
-    → (Failed later query → state_from later query ≡ CheckLost)
-    → cond b (state_of_reply entry.reply) (state_from later query) ≡ CheckLost
-failed_state_step book ask told entry later query true e turn (it, inl is, same_one, none) rest = ap state_of_reply (ap (λ (x : Entry). x.reply) (sym is) ∙ none)
-failed_state_step book ask told entry later query true e turn (it, inr h, same_one, none) rest =
-    let told_one : is_told (told ++ entry ∷ []) query ≡ true =
-    is_told_is (told ++ entry ∷ []) entry query (among_append_right entry told (entry ∷ []) (inl refl)) (same_query_is entry.query query e) in
-    absurd (later_untold book ask (told ++ entry ∷ []) later query it told_one turn.1 h same_one)
-failed_state_step book ask told entry later query false e turn (it, inl is, same_one, none) rest =
-    absurd (true≢false (sym (is_same_query entry.query query (ap (λ (x : Entry). x.query) (sym is) ∙ same_one)) ∙ e))
-failed_state_step book ask told entry later query false e turn (it, inr h, same_one, none) rest = rest (it, h, same_one, none)
+failed_step :
+    (book : Book) (ask : TripAsk) (told later : List Entry) (region stop : Text) (entry : Entry) (query : Query) (reply : Option Delivery)
+    → entry.query ≡ query → entry.reply ≡ reply → ToldInTurn book ask told (entry ∷ later) → Failed (entry ∷ later) (Check region stop)
+    → (Failed later (Check region stop) → check_state (checks_in later) region stop ≡ CheckFailed)
+    → check_state (cons_option (check_of query reply) (checks_in later)) region stop ≡ CheckFailed
+failed_step book ask told later region stop entry (Reach r s t) reply q p turn (it, inl is, same_one, none) rest =
+    let queries : Reach r s t ≡ Check region stop = sym q ∙ (ap (λ (x : Entry). x.query) (sym is) ∙ same_one) in
+    absurd (cc)
+failed_step book ask told later region stop entry (Reach r s t) reply q p turn (it, inr h, same_one, none) rest = rest (it, h, same_one, none)
+failed_step book ask told later region stop entry (Check r s) reply q p turn failed rest = go (is_check region stop first) refl failed
+  where
+    first : ToldCheck
+    first = record { region = r; stop = s; reply = reply }
 
--- a check that failed is lost
-pub failed_state : (book : Book) (ask : TripAsk) (told later : List Entry) (query : Query) → ToldInTurn book ask told later → Failed later query → state_from later query ≡ CheckLost
-failed_state book ask told [] query turn (entry, h, same_one, none) = absurd h
-failed_state book ask told (first ∷ later) query turn failed =
-    failed_state_step book ask told first later query (same_query first.query query) refl turn failed (failed_state book ask (told ++ first ∷ []) later query turn.1)
+    this : is_check region stop first ≡ true → entry.query ≡ Check region stop
+    this e =
+        let parts : (same r region ≡ true) × (same s stop ≡ true) = and_parts _ _ e in
+        q ∙ (ap (λ (x : Text). Check x s) (same_is r region parts.0) ∙ ap (λ (x : Text). Check region x) (same_is s stop parts.1))
 
--- when an entry was told, its query was open
-pub record WasOpen (book : Book) (ask : TripAsk) (query : Query) : Type 0 where
-  pub told : List Entry
-  pub open_then : IsOpen book ask told query
+    other : (b : Bool) → is_check region stop first ≡ b → b ≡ false → entry.query ≡ Check region stop → ⊥
+    other b is_b off same_one =
+        let queries : Check r s ≡ Check region stop = sym q ∙ same_one in
+        let regions : r ≡ region = cc in
+        let stops : s ≡ stop = cc in
+        true≢false (sym (and_from _ _ (is_same r region regions) (is_same s stop stops)) ∙ (is_b ∙ off))
 
-pub entry_open : (book : Book) (ask : TripAsk) (told later : List Entry) (entry : Entry) → ToldInTurn book ask told later → Among entry later → WasOpen book ask entry.query
-entry_open book ask told [] entry turn h = absurd h
-entry_open book ask told (first ∷ later) entry turn (inl is) = record { told = told; open_then = subst (λ (it : Entry). IsOpen book ask told it.query) (sym is) turn.0 }
-entry_open book ask told (first ∷ later) entry turn (inr h) = entry_open book ask (told ++ first ∷ []) later entry turn.1 h
+    go : (b : Bool) → is_check region stop first ≡ b → Failed (entry ∷ later) (Check region stop) → cond b (reply_state reply) (check_state (checks_in later) region stop) ≡ CheckFailed
+    go true e (it, inl is, same_one, none) = ap reply_state (sym p ∙ (ap (λ (x : Entry). x.reply) (sym is) ∙ none))
+    go true e (it, inr h, same_one, none) =
+        let told_one : is_told (told ++ entry ∷ []) (Check region stop) ≡ true =
+        is_told_is (told ++ entry ∷ []) entry (Check region stop) (among_append_right entry told (entry ∷ []) (inl refl)) (this e) in
+        absurd (later_untold book ask (told ++ entry ∷ []) later (Check region stop) it told_one turn.1 h same_one)
+    go false e (it, inl is, same_one, none) = absurd (other false e refl (ap (λ (x : Entry). x.query) (sym is) ∙ same_one))
+    go false e (it, inr h, same_one, none) = rest (it, h, same_one, none)
+
+-- a check that failed tells so
+pub failed_state : (book : Book) (ask : TripAsk) (told later : List Entry) (region stop : Text) → ToldInTurn book ask told later → Failed later (Check region stop) → check_state (checks_in later) region stop ≡ CheckFailed
+unfolding checks_in
+failed_state book ask told [] region stop turn (entry, h, same_one, none) = absurd h
+failed_state book ask told (first ∷ later) region stop turn failed =
+    failed_step book ask told later region stop first first.query first.reply refl refl turn failed (failed_state book ask (told ++ first ∷ []) later region stop turn.1)
+
+-- when the entry was told its query was open in what stood before it
+pub record OpenAt (book : Book) (ask : TripAsk) (all : List Entry) (entry : Entry) : Type 0 where
+  pub before : List Entry
+  pub rest : List Entry
+  pub split : all ≡ before ++ entry ∷ rest
+  pub open_then : IsOpen book ask before entry.query
+
+pub open_at : (book : Book) (ask : TripAsk) (told later : List Entry) (entry : Entry) → ToldInTurn book ask told later → Among entry later → OpenAt book ask (told ++ later) entry
+open_at book ask told [] entry turn h = absurd h
+open_at book ask told (first ∷ later) entry turn (inl is) =
+    record { before = told; rest = later; split = ap (λ (e : Entry). told ++ e ∷ later) (sym is); open_then = subst (λ (e : Entry). IsOpen book ask told e.query) (sym is) turn.0 }
+open_at book ask told (first ∷ later) entry turn (inr h) =
+    let it : OpenAt book ask ((told ++ first ∷ []) ++ later) entry = open_at book ask (told ++ first ∷ []) later entry turn.1 h in
+    record { before = it.before; rest = it.rest; split = sym (append_assoc told (first ∷ []) later) ∙ it.split; open_then = it.open_then }

@@ -11,10 +11,11 @@ use Rattle.ojp_values.specs.declared.replies.TripResult.TheVariants as results
 use Rattle.ojp_timetable.specs.Runs.{day_long}
 use Rattle.ojp_exchange.specs.Book.{Book, Spot, Link, HasChange, has_region, serves, leads_out}
 use Rattle.ojp_labels.specs.declared.queries.Entry.{Entry}
-use Rattle.ojp_labels.specs.Starts.{is_way_on, served_target, targets, Arrival, arrivals_of, heard_at, is_within, arrivals, is_change, may_change, starts_after, asked_start, known_starts, moment_of, is_at_target, best}
-use Rattle.ojp_labels.proofs.ListFacts.{Member, LeastBelow, among_append, among_append_left, among_append_right, among_map, among_map_back, among_filter, among_filter_back, among_flat_map, among_flat_map_back, least_below, least_among}
+use Rattle.ojp_labels.specs.Starts.{Arrival, arrivals_told, arrivals_heard, is_within, arrivals, is_change, may_change, starts_after, asked_start, known_starts, moment_of, is_at_target, best}
+use Rattle.ojp_values.proofs.ListFacts.{Member, LeastBelow, among_append, among_append_left, among_append_right, among_map, among_map_back, among_filter, among_filter_back, among_flat_map, among_flat_map_back, least_below, least_among}
 use Rattle.ojp_timetable.proofs.TextFacts.{same_is, is_same, differ_is, is_differ}
-use Rattle.ojp_labels.proofs.BookFacts.{is_region, region_is}
+use Rattle.ojp_exchange.proofs.BookFacts.{is_region, region_is}
+use Rattle.ojp_labels.specs.Pairs.{served_goal, is_way_on, ends_towards}
 
 -- what a choice by a test gives where it gives something
 among_if : {X : Type 0} (b : Bool) (x : X) (xs : List X) → Among x (cond b xs []) → (b ≡ true) × Among x xs
@@ -25,22 +26,22 @@ if_among : {X : Type 0} (b : Bool) (x : X) (xs : List X) → b ≡ true → Amon
 if_among true x xs e h = h
 if_among false x xs e h = absurd (true≢false (sym e))
 
-pub target_way_on :
-    (book : Book) (ask : TripAsk) (stop region : Text) (spot : Spot)
-    → Among spot book.spots → region ≡ spot.region → leads_out book region spot.stop ≡ true → stop ≢ spot.stop → ask.target ≢ spot.stop
-    → Among spot.stop (targets book ask stop region)
-unfolding targets
-target_way_on book ask stop region spot listed of_region out elsewhere no_target =
-    let on : is_way_on book ask stop region spot ≡ true =
-    and_from _ _ (is_same region spot.region of_region) (and_from _ _ out (and_from _ _ (not_from_false _ (is_differ stop spot.stop elsewhere)) (not_from_false _ (is_differ ask.target spot.stop no_target)))) in
-    among_append_left spot.stop _ (served_target book ask region)
-    (among_map (λ (it : Spot). it.stop) spot _ (among_filter (is_way_on book ask stop region) spot book.spots listed on))
+pub way_on_end :
+    (book : Book) (goal stop region : Text) (spot : Spot)
+    → Among spot book.spots → region ≡ spot.region → leads_out book region spot.stop ≡ true → stop ≢ spot.stop → goal ≢ spot.stop
+    → Among spot.stop (ends_towards book goal stop region)
+unfolding ends_towards
+way_on_end book goal stop region spot listed of_region out elsewhere no_goal =
+    let on : is_way_on book goal stop region spot ≡ true =
+    and_from _ _ (is_same region spot.region of_region) (and_from _ _ out (and_from _ _ (not_from_false _ (is_differ stop spot.stop elsewhere)) (not_from_false _ (is_differ goal spot.stop no_goal)))) in
+    among_append_left spot.stop _ (served_goal book goal region)
+    (among_map (λ (it : Spot). it.stop) spot _ (among_filter (is_way_on book goal stop region) spot book.spots listed on))
 
-pub target_served : (book : Book) (ask : TripAsk) (stop region : Text) → serves book region ask.target ≡ true → Among ask.target (targets book ask stop region)
-unfolding targets
-target_served book ask stop region served =
-    among_append_right ask.target (map (λ (it : Spot). it.stop) (filter (is_way_on book ask stop region) book.spots)) _
-    (if_among (serves book region ask.target) ask.target (ask.target ∷ []) served (inl refl))
+pub goal_end : (book : Book) (goal stop region : Text) → serves book region goal ≡ true → Among goal (ends_towards book goal stop region)
+unfolding ends_towards
+goal_end book goal stop region served =
+    among_append_right goal (map (λ (it : Spot). it.stop) (filter (is_way_on book goal stop region) book.spots)) _
+    (if_among (serves book region goal) goal (goal ∷ []) served (inl refl))
 
 arrival_at : Text → Text → ℕ → Arrival
 arrival_at stop region moment = record { stop = stop; region = region; moment = moment }
@@ -49,15 +50,15 @@ arrival_at stop region moment = record { stop = stop; region = region; moment = 
 pub record ResultAt (R : Text → TripResult → Type 0) (region : Text) (stops : List Text) (found : List TripResult) (d : Text) : Type 0 where
   pub result : TripResult
   pub holds : R d result
-  pub told : (trip : Trip) → result ≡ results.Trip trip → Member (arrivals_of region stops found) (λ (it : Arrival). (it.stop ≡ d) × (it.region ≡ region) × (it.moment ≡ trip.end))
+  pub told : (trip : Trip) → result ≡ results.Trip trip → Member (arrivals_told region stops found) (λ (it : Arrival). (it.stop ≡ d) × (it.region ≡ region) × (it.moment ≡ trip.end))
 
-result_first : (region stop : Text) (stops : List Text) (result : TripResult) (found : List TripResult) (trip : Trip) → result ≡ results.Trip trip → Member (arrivals_of region (stop ∷ stops) (result ∷ found)) (λ (it : Arrival). (it.stop ≡ stop) × (it.region ≡ region) × (it.moment ≡ trip.end))
+result_first : (region stop : Text) (stops : List Text) (result : TripResult) (found : List TripResult) (trip : Trip) → result ≡ results.Trip trip → Member (arrivals_told region (stop ∷ stops) (result ∷ found)) (λ (it : Arrival). (it.stop ≡ stop) × (it.region ≡ region) × (it.moment ≡ trip.end))
 result_first region stop stops (results.Trip own) found trip e =
     let same : own ≡ trip = cc in
     record { item = record { stop = stop; region = region; moment = own.end }; among = inl refl; holds = (refl, refl, ap (λ (it : Trip). it.end) same) }
 result_first region stop stops (results.NoTrip none) found trip e = absurd (cc)
 
-result_later : (region stop : Text) (stops : List Text) (result : TripResult) (found : List TripResult) (P : Arrival → Type 0) → Member (arrivals_of region stops found) P → Member (arrivals_of region (stop ∷ stops) (result ∷ found)) P
+result_later : (region stop : Text) (stops : List Text) (result : TripResult) (found : List TripResult) (P : Arrival → Type 0) → Member (arrivals_told region stops found) P → Member (arrivals_told region (stop ∷ stops) (result ∷ found)) P
 result_later region stop stops (results.Trip own) found P m = record { item = m.item; among = inr m.among; holds = m.holds }
 result_later region stop stops (results.NoTrip none) found P m = m
 
@@ -68,7 +69,7 @@ result_at R region (stop ∷ stops) (result ∷ found) d pairs (inl e) =
     record {
       result = result;
       holds = subst (λ (s : Text). R s result) (sym e) pairs.0;
-      told = λ trip is. subst (λ (s : Text). Member (arrivals_of region (stop ∷ stops) (result ∷ found)) (λ (it : Arrival). (it.stop ≡ s) × (it.region ≡ region) × (it.moment ≡ trip.end))) (sym e)
+      told = λ trip is. subst (λ (s : Text). Member (arrivals_told region (stop ∷ stops) (result ∷ found)) (λ (it : Arrival). (it.stop ≡ s) × (it.region ≡ region) × (it.moment ≡ trip.end))) (sym e)
           (result_first region stop stops result found trip is);
     }
 result_at R region (stop ∷ stops) (result ∷ found) d pairs (inr h) =
@@ -86,7 +87,7 @@ pub record TripOf (R : Text → TripResult → Type 0) (region : Text) (stops : 
 trip_later : (R : Text → TripResult → Type 0) (region stop : Text) (stops : List Text) (arrival : Arrival) → TripOf R region stops arrival → TripOf R region (stop ∷ stops) arrival
 trip_later R region stop stops arrival it = record { trip = it.trip; by_region = it.by_region; at = it.at; target = inr it.target; holds = it.holds }
 
-pub trip_of : (R : Text → TripResult → Type 0) (region : Text) (stops : List Text) (found : List TripResult) (arrival : Arrival) → Pairwise R stops found → Among arrival (arrivals_of region stops found) → TripOf R region stops arrival
+pub trip_of : (R : Text → TripResult → Type 0) (region : Text) (stops : List Text) (found : List TripResult) (arrival : Arrival) → Pairwise R stops found → Among arrival (arrivals_told region stops found) → TripOf R region stops arrival
 trip_of R region [] found arrival pairs h = absurd h
 trip_of R region (stop ∷ stops) [] arrival pairs h = absurd h
 trip_of R region (stop ∷ stops) (results.Trip trip ∷ found) arrival pairs (inl e) =
@@ -102,22 +103,22 @@ trip_of R region (stop ∷ stops) (results.Trip trip ∷ found) arrival pairs (i
 trip_of R region (stop ∷ stops) (results.NoTrip none ∷ found) arrival pairs h = trip_later R region stop stops arrival (trip_of R region stops found arrival pairs.1 h)
 
 -- the arrival is heard, from an entry of the record
-pub arrival_heard : (book : Book) (ask : TripAsk) (told : List Entry) (entry : Entry) (arrival : Arrival) → Among entry told → Among arrival (heard_at book ask entry) → arrival.moment ≤ ask.start + day_long → Among arrival (arrivals book ask told)
+pub arrival_heard : (book : Book) (ask : TripAsk) (told : List Entry) (entry : Entry) (arrival : Arrival) → Among entry told → Among arrival (arrivals_heard book ask entry.query entry.reply) → arrival.moment ≤ ask.start + day_long → Among arrival (arrivals book ask told)
 unfolding arrivals
 arrival_heard book ask told entry arrival listed heard within =
-    among_filter (is_within ask) arrival _ (among_flat_map (heard_at book ask) entry arrival told listed heard) (le-leb arrival.moment (ask.start + day_long) within)
+    among_filter (is_within ask) arrival _ (among_flat_map (λ (entry : Entry). arrivals_heard book ask entry.query entry.reply) entry arrival told listed heard) (le-leb arrival.moment (ask.start + day_long) within)
 
 pub record HeardFrom (book : Book) (ask : TripAsk) (told : List Entry) (arrival : Arrival) : Type 0 where
   pub entry : Entry
   pub listed : Among entry told
-  pub heard : Among arrival (heard_at book ask entry)
+  pub heard : Among arrival (arrivals_heard book ask entry.query entry.reply)
   pub within : arrival.moment ≤ ask.start + day_long
 
 pub heard_from_entry : (book : Book) (ask : TripAsk) (told : List Entry) (arrival : Arrival) → Among arrival (arrivals book ask told) → HeardFrom book ask told arrival
 unfolding arrivals
 heard_from_entry book ask told arrival h =
-    let both : Among arrival (flat_map (heard_at book ask) told) × (is_within ask arrival ≡ true) = among_filter_back (is_within ask) arrival (flat_map (heard_at book ask) told) h in
-    let m : Member told (λ (entry : Entry). Among arrival (heard_at book ask entry)) = among_flat_map_back (heard_at book ask) arrival told both.0 in
+    let both : Among arrival (flat_map (λ (entry : Entry). arrivals_heard book ask entry.query entry.reply) told) × (is_within ask arrival ≡ true) = among_filter_back (is_within ask) arrival (flat_map (λ (entry : Entry). arrivals_heard book ask entry.query entry.reply) told) h in
+    let m : Member told (λ (entry : Entry). Among arrival (arrivals_heard book ask entry.query entry.reply)) = among_flat_map_back (λ (entry : Entry). arrivals_heard book ask entry.query entry.reply) arrival told both.0 in
     record { entry = m.item; listed = m.among; heard = m.holds; within = leb-true arrival.moment (ask.start + day_long) both.1 }
 
 -- an arrival stays heard
@@ -127,12 +128,12 @@ arrivals_more book ask told more arrival h =
     arrival_heard book ask (told ++ more) it.entry arrival (among_append_left it.entry told more it.listed) it.heard it.within
 
 -- an arrival of a record with one more entry
-pub arrivals_last : (book : Book) (ask : TripAsk) (told : List Entry) (entry : Entry) (arrival : Arrival) → Among arrival (arrivals book ask (told ++ entry ∷ [])) → Among arrival (arrivals book ask told) ⊎ (Among arrival (heard_at book ask entry) × (arrival.moment ≤ ask.start + day_long))
+pub arrivals_last : (book : Book) (ask : TripAsk) (told : List Entry) (entry : Entry) (arrival : Arrival) → Among arrival (arrivals book ask (told ++ entry ∷ [])) → Among arrival (arrivals book ask told) ⊎ (Among arrival (arrivals_heard book ask entry.query entry.reply) × (arrival.moment ≤ ask.start + day_long))
 arrivals_last book ask told entry arrival h =
     let it : HeardFrom book ask (told ++ entry ∷ []) arrival = heard_from_entry book ask (told ++ entry ∷ []) arrival h in
     elim (among_append it.entry told (entry ∷ []) it.listed) [
       | inl before ↦ inl (arrival_heard book ask told it.entry arrival before it.heard it.within)
-      | inr (inl e) ↦ inr (subst (λ (x : Entry). Among arrival (heard_at book ask x)) e it.heard, it.within)
+      | inr (inl e) ↦ inr (subst (λ (x : Entry). Among arrival (arrivals_heard book ask x.query x.reply)) e it.heard, it.within)
       | inr (inr none) ↦ absurd none
     ]
 

@@ -13,8 +13,9 @@ use Rattle.ojp_exchange.specs.Book.{Book, Spot, Link}
 use Rattle.ojp_labels.specs.declared.queries.Query.TheVariants.{Check, Reach}
 use Rattle.ojp_labels.specs.declared.queries.Entry.{Entry}
 use Rattle.ojp_labels.specs.Starts.{best}
-use Rattle.ojp_labels.specs.Wanted.{wanted, IsRecord}
+use Rattle.ojp_labels.specs.Wanted.{wanted}
 use Rattle.ojp_labels.specs.Ends.{fault}
+use Rattle.ojp_labels.specs.Told.{IsRecord}
 
 -- the moment of the day, by its hours and minutes
 abbrev pub at : ℕ → ℕ → ℕ
@@ -83,8 +84,8 @@ abbrev pub heard : Text → Text → ℕ → List TripResult → Entry
 heard region stop start found = record { query = Reach region stop start; reply = Some (deliveries.Multi (multi_replies.Results found)) }
 
 -- the query failed
-abbrev pub lost : Text → Text → ℕ → Entry
-lost region stop start = record { query = Reach region stop start; reply = None }
+abbrev pub failed_reach : Text → Text → ℕ → Entry
+failed_reach region stop start = record { query = Reach region stop start; reply = None }
 
 -- x:P is shared by AA, BB and CC, and x:Q by AA and BB; CC needs so much for a change at x:P from AA and from BB
 abbrev pub three_regions : ℕ → ℕ → Book
@@ -250,7 +251,7 @@ points_heard =
 
 -- CC fails at x:P from 10:05
 abbrev pub failed_once : List Entry
-failed_once = points_heard ++ heard code_bb point_p (at 10 5) (results.NoTrip point_q ∷ []) ∷ lost code_cc point_p (at 10 5) ∷ []
+failed_once = points_heard ++ heard code_bb point_p (at 10 5) (results.NoTrip point_q ∷ []) ∷ failed_reach code_cc point_p (at 10 5) ∷ []
 
 -- BB reaches x:P at 09:30
 abbrev pub sooner : List Entry
@@ -264,7 +265,7 @@ superseded = sooner ++ heard code_cc point_p (at 9 35) (by_ride code_cc (codes "
 
 -- CC fails from 09:35 too
 abbrev pub failed_again : List Entry
-failed_again = sooner ++ lost code_cc point_p (at 9 35) ∷ []
+failed_again = sooner ++ failed_reach code_cc point_p (at 9 35) ∷ []
 
 -- a trip where the second reply comes, and a failure of CC where that fails too
 pub record FailureIsSuperseded : Type 0 where
@@ -343,7 +344,7 @@ pub record PlacesAreChecked : Type 0 where
   pub no_region : fault apart (ask_to start_stop of_no_region) (known code_aa start_stop ∷ []) ≡ Some (StopUnknown of_no_region)
   pub nothing : wanted apart (ask_to (codes "ZZ:y") of_no_region) [] ≡ []
   pub origin : fault apart (ask_to (codes "ZZ:y") of_no_region) [] ≡ Some (StopUnknown (codes "ZZ:y"))
-  pub lost_check : fault apart (ask_to start_stop (codes "BB:b")) (known code_bb (codes "BB:b") ∷ unchecked code_aa start_stop ∷ []) ≡ Some (RegionFailed code_aa)
+  pub failed_check : fault apart (ask_to start_stop (codes "BB:b")) (known code_bb (codes "BB:b") ∷ unchecked code_aa start_stop ∷ []) ≡ Some (RegionFailed code_aa)
   pub no_trip : fault apart (ask_to start_stop (codes "BB:b")) (known code_bb (codes "BB:b") ∷ known code_aa start_stop ∷ []) ≡ Some (NoTrip (codes "BB:b"))
 
 -- What can't improve is wanted no more. Once BB:z is reached at 09:40, no start of CC at 09:55 or 10:00 matters.

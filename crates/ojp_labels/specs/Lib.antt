@@ -1,6 +1,13 @@
 pub mod Records
+pub mod Places
+pub mod Pairs
 pub mod Starts
 pub mod Wanted
+pub mod Told
 pub mod Ends
 pub mod Headline
+pub mod Chains
+pub mod Laws
 pub mod Examples
+pub mod LimitExamples
+pub mod OneRegion

@@ -1,40 +1,19 @@
--- What a record tells: arrivals, the known starts of a pair, the best arrival.
-use Rattle.std.specs.Prelude.{ℕ, ◌+◌, Bool, not, ◌&&◌, List, [], ◌∷◌, ◌++◌, map, filter, flat_map, Option, Some, None, nat_le, if◌then◌else◌}
+-- What a record tells of arrivals: the known starts of a pair, and the best arrival.
+use Rattle.std.specs.Prelude.{ℕ, ◌+◌, Bool, not, ◌&&◌, List, [], ◌∷◌, ◌++◌, map, filter, flat_map, Option, Some, nat_le, if◌then◌else◌}
 use Rattle.ojp_values.specs.Lists.{least}
 use Rattle.ojp_values.specs.Texts.{Text, same}
 use Rattle.ojp_values.specs.declared.asks.TripAsk.{TripAsk}
-use Rattle.ojp_values.specs.declared.asks.Ask.{Ask}
-use Rattle.ojp_values.specs.declared.asks.Ask.TheVariants as asks
-use Rattle.ojp_values.specs.declared.kinds.EventKind.TheVariants.{Departure}
 use Rattle.ojp_values.specs.declared.replies.TripResult.{TripResult}
 use Rattle.ojp_values.specs.declared.replies.TripResult.TheVariants as results
 use Rattle.ojp_values.specs.declared.replies.MultiReply.TheVariants as multi_replies
 use Rattle.ojp_values.specs.declared.replies.Delivery.{Delivery}
 use Rattle.ojp_values.specs.declared.replies.Delivery.TheVariants as deliveries
 use Rattle.ojp_timetable.specs.Runs.{day_long}
-use Rattle.ojp_exchange.specs.Book.{Book, Spot, Link, has_region, serves, leads_out}
+use Rattle.ojp_exchange.specs.Book.{Book, Link, has_region, serves}
 use Rattle.ojp_labels.specs.declared.queries.Query.{Query}
-use Rattle.ojp_labels.specs.declared.queries.Query.TheVariants.{Check, Reach}
+use Rattle.ojp_labels.specs.declared.queries.Query.TheVariants.{Reach}
 use Rattle.ojp_labels.specs.declared.queries.Entry.{Entry}
-
--- the spot is one of the region, leads on to another region, and is neither the stop nor the requested target
-abbrev pub is_way_on : Book → TripAsk → Text → Text → Spot → Bool
-is_way_on book ask stop region spot =
-    same region spot.region && (leads_out book region spot.stop && (not (same stop spot.stop) && not (same ask.target spot.stop)))
-
--- the requested target, if the region is its own or declares it
-abbrev pub served_target : Book → TripAsk → Text → List Text
-served_target book ask region = if serves book region ask.target then ask.target ∷ [] else []
-
--- the targets of a pair: the region's ways on, rising, and then the requested target
-unfoldable pub targets : Book → TripAsk → Text → Text → List Text
-targets book ask stop region =
-    map (λ (spot : Spot). spot.stop) (filter (is_way_on book ask stop region) book.spots) ++ served_target book ask region
-
--- the subrequest that asks the query: a check asks for one departure, a pair for trips to all its targets
-abbrev pub document : Book → TripAsk → Query → Ask
-document book ask (Check region stop) = asks.Events (record { stop = stop; start = ask.start; kind = Departure; number = 1 })
-document book ask (Reach region stop start) = asks.Multi (record { origin = stop; start = start; targets = targets book ask stop region })
+use Rattle.ojp_labels.specs.Pairs.{ends_towards}
 
 -- at the stop one may arrive at the moment by the region
 pub record Arrival : Type 0 where
@@ -43,29 +22,17 @@ pub record Arrival : Type 0 where
   pub moment : ℕ
 
 -- the arrivals that the results tell, at the targets in their order
-abbrev pub arrivals_of : Text → List Text → List TripResult → List Arrival
-arrivals_of region [] found = []
-arrivals_of region (stop ∷ stops) [] = []
-arrivals_of region (stop ∷ stops) (results.Trip trip ∷ found) = record { stop = stop; region = region; moment = trip.end } ∷ arrivals_of region stops found
-arrivals_of region (stop ∷ stops) (results.NoTrip none ∷ found) = arrivals_of region stops found
+abbrev pub arrivals_told : Text → List Text → List TripResult → List Arrival
+arrivals_told region [] found = []
+arrivals_told region (stop ∷ stops) [] = []
+arrivals_told region (stop ∷ stops) (results.Trip trip ∷ found) = record { stop = stop; region = region; moment = trip.end } ∷ arrivals_told region stops found
+arrivals_told region (stop ∷ stops) (results.NoTrip none ∷ found) = arrivals_told region stops found
 
--- the arrivals that a reply of the region tells at these targets
-abbrev pub heard_in : Text → List Text → Option Delivery → List Arrival
-heard_in region stops None = []
-heard_in region stops (Some (deliveries.Multi (multi_replies.Results found))) = arrivals_of region stops found
-heard_in region stops (Some (deliveries.Multi (multi_replies.Fault fault))) = []
-heard_in region stops (Some (deliveries.Trip reply)) = []
-heard_in region stops (Some (deliveries.Events reply)) = []
-heard_in region stops (Some (deliveries.Points reply)) = []
-
--- the arrivals that the reply to a query tells
-abbrev pub heard_from : Book → TripAsk → Query → Option Delivery → List Arrival
-heard_from book ask (Check region stop) reply = []
-heard_from book ask (Reach region stop start) reply = heard_in region (targets book ask stop region) reply
-
--- the arrivals that the entry tells
-abbrev pub heard_at : Book → TripAsk → Entry → List Arrival
-heard_at book ask entry = heard_from book ask entry.query entry.reply
+-- the arrivals that are heard by the reply to a query
+abbrev pub arrivals_heard : Book → TripAsk → Query → Option Delivery → List Arrival
+arrivals_heard book ask (Reach region stop start) (Some (deliveries.Multi (multi_replies.Results found))) =
+    arrivals_told region (ends_towards book ask.target stop region) found
+arrivals_heard book ask query reply = []
 
 -- the arrival is within the requested day
 abbrev pub is_within : TripAsk → Arrival → Bool
@@ -73,7 +40,7 @@ is_within ask arrival = nat_le arrival.moment (ask.start + day_long)
 
 -- the heard arrivals, but for those after the requested day
 unfoldable pub arrivals : Book → TripAsk → List Entry → List Arrival
-arrivals book ask told = filter (is_within ask) (flat_map (heard_at book ask) told)
+arrivals book ask told = filter (is_within ask) (flat_map (λ (entry : Entry). arrivals_heard book ask entry.query entry.reply) told)
 
 -- the link is a change from the arrival to the region at the stop
 abbrev pub is_change : Text → Text → Arrival → Link → Bool
