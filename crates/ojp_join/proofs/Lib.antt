@@ -1,2 +1,1 @@
-pub mod ChainFacts
 pub mod OutcomeFacts
