@@ -1,0 +1,12 @@
+//! A region's server: what its timetable answers to an ask, and one connection that is served so.
+#![tactic(auto)]
+
+mod answers;
+mod bodies;
+mod serving;
+
+pub use answers::answer;
+pub use serving::serve_one;
+
+#[cfg(test)]
+mod tests;

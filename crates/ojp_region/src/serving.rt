@@ -1,0 +1,46 @@
+//! One connection of a region's server.
+
+ghost use Rattle.std.specs.Prelude.{◌≡◌};
+ghost use Rattle.ojp_grammar.specs.Answering.{AnswersBody};
+ghost use Rattle.ojp_http.specs.Asking.{ReadsNoFurther};
+ghost use Rattle.ojp_http.specs.Connections.{Serves};
+ghost use Rattle.ojp_scan.specs.Scans.{IsMadeFor};
+ghost use Rattle.ojp_region.specs.Answered.{Answered};
+
+use crate::bodies::answer_body;
+use ojp_http::{HttpRefusal, Served, give_up, read_request, refuse, respond};
+use ojp_outside::{Sink, Source};
+use ojp_scan::Scan;
+use ojp_timetable::table::Timetable;
+use ojp_values::NoMemory;
+use std::alloc::Global;
+
+/// Reads one request and writes the response to it: a refusal of HTTP, a refusal of the document, or the
+/// region's answer. Of what the input has behind the request only the rest of its last piece is read.
+pub fn serve_one<I: Source, O: Sink>(
+    alloc: Global,
+    table: &Timetable,
+    scan: &mut Scan,
+    input: &mut I,
+    output: &mut O,
+) -> Served
+    requires made { IsMadeFor scan.old table.now }
+    ensures made { IsMadeFor scan.new table.now }
+    ensures serves { Serves (AnswersBody (Answered table.now))
+        (record { left = I.left input.old; written = O.written output.old; read_faults = I.faults input.old; write_faults = O.faults output.old })
+        (record { left = I.left input.new; written = O.written output.new; read_faults = I.faults input.new; write_faults = O.faults output.new })
+        result }
+    ensures taken { ReadsNoFurther (I.left input.old) (I.left input.new) }
+{
+    match read_request(alloc, input) {
+        Ok(body) => match answer_body(alloc, table, scan, body.as_slice()) {
+            Ok(response) => respond(response.status, response.text.written(), output),
+            Err(NoMemory) => give_up(output),
+        },
+        Err(refusal) => match refusal {
+            HttpRefusal::ReadFault => Served::ReadFault,
+            HttpRefusal::NoMemory => give_up(output),
+            _ => refuse(refusal, output),
+        },
+    }
+}
