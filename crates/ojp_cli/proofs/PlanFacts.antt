@@ -1,10 +1,10 @@
 -- How `plan` ends where the file, the request and the answer were good.
-use Rattle.std.proofs.Common.{ℕ, Option, Result, Ok, Err, OnOk, IfErr, refl}
+use Rattle.std.proofs.Common.{ℕ, Option, Result, Ok, Err, OnOk, IfErr, IsTrue, refl}
 use Rattle.std.specs.Io.KnownBytes.{Appends}
 use Rattle.ojp_values.specs.Texts.{Text}
 use Rattle.ojp_cli.specs.Around.{Around}
 use Rattle.ojp_cli.specs.Plans.{delivery_bytes, Due, Ends, Files, StopsFor, WriteStops}
-use Rattle.ojp_cli.specs.Stops.{LeavesOutput}
+use Rattle.ojp_cli.specs.Stops.{LeavesOutput, is_of_file}
 use Rattle.ojp_cli.specs.declared.stops.Stop.{Stop}
 use Rattle.ojp_cli.specs.declared.stops.Stop.TheVariants.{Document, Words, File, FileTooLong, Input, Output, Memory, Table}
 
@@ -44,3 +44,20 @@ pub leaves_unwritten :
     → IfErr result (λ stop. WriteStops old new faults faults_now bytes stop) → IfErr result (λ stop. LeavesOutput old new stop)
 leaves_unwritten old new faults faults_now bytes (Ok done) stops = tt
 leaves_unwritten old new faults faults_now bytes (Err stop) stops = unwritten_leaves old new faults faults_now bytes stop stops
+
+no_file_unwritten : (Q : Type 0) (old new : Option Text) (faults faults_now : ℕ) (bytes : Text) (stop : Stop) → WriteStops old new faults faults_now bytes stop → IsTrue (is_of_file stop) → Q
+no_file_unwritten Q old new faults faults_now bytes (Document at reason) stops file = absurd stops
+no_file_unwritten Q old new faults faults_now bytes Words stops file = absurd stops
+no_file_unwritten Q old new faults faults_now bytes File stops file = absurd stops
+no_file_unwritten Q old new faults faults_now bytes FileTooLong stops file = absurd stops
+no_file_unwritten Q old new faults faults_now bytes Input stops file = absurd stops
+no_file_unwritten Q old new faults faults_now bytes Output stops file = absurd (cc)
+no_file_unwritten Q old new faults faults_now bytes Memory stops file = absurd (cc)
+no_file_unwritten Q old new faults faults_now bytes (Table line reason) stops file = absurd stops
+
+-- a delivery that was not written did not stop for a file
+pub unwritten_is_of_no_file :
+    {A : Type 0} (Q : Type 0) (old new : Option Text) (faults faults_now : ℕ) (bytes : Text) (result : Result A Stop)
+    → IfErr result (λ stop. WriteStops old new faults faults_now bytes stop) → IfErr result (λ stop. IsTrue (is_of_file stop) → Q)
+unwritten_is_of_no_file Q old new faults faults_now bytes (Ok done) stops = tt
+unwritten_is_of_no_file Q old new faults faults_now bytes (Err stop) stops = no_file_unwritten Q old new faults faults_now bytes stop stops

@@ -1,4 +1,3 @@
-pub mod Reasons
 pub mod Words
 pub mod Commands
 pub mod Stops

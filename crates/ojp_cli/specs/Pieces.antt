@@ -7,6 +7,7 @@ use Rattle.ojp_grammar.specs.Places.{IsRefused}
 use Rattle.ojp_grammar.specs.declared.refusals.Want.{Want}
 use Rattle.ojp_decode.specs.Progress.{Progress, reading, whole, over, spent}
 use Rattle.ojp_decode.specs.Feeding.{StaysRefused}
+use Rattle.ojp_decode.specs.Standing.{ReaderView, HasRead}
 use Rattle.ojp_decode.specs.declared.fed.ReadRefused.{ReadRefused}
 use Rattle.ojp_decode.specs.declared.fed.ReadRefused.TheVariants.{At, NoMemory}
 use Rattle.ojp_cli.specs.declared.stops.Stop.{Stop}
@@ -19,16 +20,13 @@ Took want fed (whole meant bytes) = (meant ≡ want) × (bytes ≡ fed)
 Took want fed (over refused) = ⊥
 Took want fed spent = ⊥
 
--- nothing was refused
-abbrev pub IsOpen : Progress → Type 0
-IsOpen (reading want bytes) = Unit {0}
-IsOpen (whole want bytes) = Unit {0}
-IsOpen (over refused) = ⊥
-IsOpen spent = ⊥
+-- the reader took these bytes
+abbrev pub HasTaken : Want → Text → ReaderView → Type 0
+HasTaken want fed reader = (progress : Progress) × HasRead reader progress × Took want fed progress
 
 -- the reader took the whole piece, or all the bytes are refused whatever follows
-abbrev pub FeedsAll : Want → Text → Text → Result (Unit {0}) ReadRefused → Progress → Type 0
-FeedsAll want fed piece (Ok done) new = Took want (fed ++ piece) new
+abbrev pub FeedsAll : Want → Text → Text → Result (Unit {0}) ReadRefused → ReaderView → Type 0
+FeedsAll want fed piece (Ok done) new = HasTaken want (fed ++ piece) new
 FeedsAll want fed piece (Err (At refused)) new = StaysRefused want (fed ++ piece) refused
 FeedsAll want fed piece (Err NoMemory) new = Unit {0}
 

@@ -1,22 +1,15 @@
 -- What `plan` does with a timetable file and a request.
-use Rattle.std.specs.Prelude.{◌≡◌, ℕ, ◌<◌, ◌≤◌, Bool, length, Option, Some, IfSome, Result, Ok, Err}
-use Rattle.std.specs.Option.{ForSome}
+use Rattle.std.specs.Prelude.{◌≡◌, ℕ, ◌<◌, ◌≤◌, Bool, length, Option, Some, IfSome, IsSomeAnd, Result, Ok, Err}
 use Rattle.std.specs.Io.KnownBytes.{Appends, Keeps}
 use Rattle.ojp_values.specs.Texts.{Text}
 use Rattle.ojp_values.specs.declared.asks.Ask.{Ask}
-use Rattle.ojp_values.specs.declared.asks.Ask.TheVariants as asks
 use Rattle.ojp_values.specs.declared.documents.Doc.TheVariants as docs
 use Rattle.ojp_values.specs.declared.replies.Delivery.{Delivery}
-use Rattle.ojp_values.specs.declared.replies.Delivery.TheVariants as deliveries
-use Rattle.ojp_values.specs.declared.replies.MultiReply.TheVariants as multi_replies
-use Rattle.ojp_values.specs.declared.replies.EventsReply.TheVariants as events_replies
-use Rattle.ojp_values.specs.declared.replies.PointsReply.TheVariants as points_replies
-use Rattle.ojp_values.specs.declared.replies.Fault.TheVariants.{NotServed}
 use Rattle.ojp_outside.specs.Causes.{Rose, Rests}
 use Rattle.ojp_outside.specs.Files.{IsContents}
 use Rattle.ojp_outside.specs.Known.{AppendsPrefix}
 use Rattle.ojp_timetable.specs.Tables.{Timetable}
-use Rattle.ojp_timetable.specs.Answers.{TripAnswered}
+use Rattle.ojp_region.specs.Answered.{Answered}
 use Rattle.ojp_timetable.specs.TableText.{IsText, IsRefused as IsTableRefused}
 use Rattle.ojp_grammar.specs.Items.{spell}
 use Rattle.ojp_grammar.specs.Documents.{items}
@@ -35,13 +28,6 @@ file_limit = 16777216
 abbrev pub Contents : Type 0
 Contents = Option (Text → Option Text)
 
--- `plan` answers a trip by the region's timetable; every other ask is not served
-abbrev pub PlanAnswers : Timetable → Ask → Delivery → Type 0
-PlanAnswers table (asks.Trip ask) delivery = TripAnswered table ask delivery
-PlanAnswers table (asks.Multi ask) delivery = delivery ≡ deliveries.Multi (multi_replies.Fault NotServed)
-PlanAnswers table (asks.Events ask) delivery = delivery ≡ deliveries.Events (events_replies.Fault NotServed)
-PlanAnswers table (asks.Points ask) delivery = delivery ≡ deliveries.Points (points_replies.Fault NotServed)
-
 -- the file, where the store tells its contents, is the text of the timetable
 pub record IsFileOf (contents : Contents) (file : Text) (table : Timetable) : Type 0 where
   pub bytes : Text
@@ -56,7 +42,7 @@ pub record Due (contents : Contents) (file : Text) (left left_now : Option Text)
   pub ask : Ask
   pub of_input : IsDocumentOf Request left left_now ended (docs.Ask ask)
   pub delivery : Delivery
-  pub answers : PlanAnswers table ask delivery
+  pub answers : Answered table ask delivery
 
 -- the bytes of a delivery
 abbrev pub delivery_bytes : Delivery → Text
@@ -77,9 +63,9 @@ pub record FileFailed (faults faults_now : ℕ) (failed_name : Option (Option Te
   pub rose : Rose faults faults_now
   pub named : IfSome failed_name (λ name. name ≡ Some file)
 
--- the file has more bytes than a file may have, where the store tells them
+-- the file is there and has more bytes than a file may have, where the store tells its files
 abbrev pub IsTooLong : Contents → Text → Type 0
-IsTooLong contents file = IfSome contents (λ files. ForSome (files file) (λ bytes. file_limit < length bytes))
+IsTooLong contents file = IfSome contents (λ files. IsSomeAnd (files file) (λ bytes. file_limit < length bytes))
 
 -- the file, where the store tells its contents, is refused at the line for the reason
 pub record IsRefusedFile (contents : Contents) (file : Text) (line : ℕ) (reason : TableReason) : Type 0 where

@@ -3,7 +3,7 @@
 ghost use Rattle.std.specs.Prelude.{◌≡◌, ◌++◌, [], ◌∷◌, IfOk, IfErr};
 ghost use Rattle.std.specs.Io.KnownBytes.{Appends};
 ghost use Rattle.ojp_outside.specs.Known.{LosesPrefix};
-ghost use Rattle.ojp_cli.specs.Stops.{LeavesOutput};
+ghost use Rattle.ojp_cli.specs.Stops.{LeavesOutput, IsCalmBut};
 ghost use Rattle.ojp_cli.specs.Checks.{ask_name, delivery_name, element_name, Ends};
 
 use crate::documents::read_document;
@@ -32,6 +32,8 @@ pub(crate) fn check<I: Source, O: Sink>(
     }) result }
     ensures untouched { IfErr result (LeavesOutput (O.written output.old) (O.written output.new)) }
     ensures taken { LosesPrefix (I.left input.old) (I.left input.new) }
+    ensures calm_input { IsCalmBut Stop.Input (I.faults input.old) (I.faults input.new) result }
+    ensures calm_output { IsCalmBut Stop.Output (O.faults output.old) (O.faults output.new) result }
 {
     let document = read_document(alloc, Want::Either, input)?;
     let name = name_of(&document);

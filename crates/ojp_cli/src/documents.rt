@@ -3,9 +3,11 @@
 ghost use Rattle.std.specs.Prelude.{◌≡◌, ◌≤◌, ◌++◌, IfOk, IfErr, length, List, take, ℕ};
 ghost use Rattle.ojp_outside.specs.Known.{LosesPrefix};
 ghost use Rattle.ojp_grammar.specs.declared.refusals.Want.{Want};
+ghost use Rattle.ojp_cli.specs.Stops.{IsCalmBut};
 ghost use Rattle.ojp_cli.specs.Inputs.{IsDocumentOf, ReadStops};
-ghost use Rattle.ojp_cli.specs.Pieces.{FeedsAll, Finishes, IsOpen, stop_of, Took};
+ghost use Rattle.ojp_cli.specs.Pieces.{FeedsAll, Finishes, HasTaken, stop_of};
 ghost use Rattle.ojp_decode.specs.Progress.{whole};
+ghost use Rattle.ojp_decode.specs.Standing.{HasRead};
 
 use crate::stops::Stop;
 use ojp_decode::{Fed, ReadRefused, Reader};
@@ -31,12 +33,12 @@ pub(crate) fn read_document<I: Source>(
     ensures ok { IfOk result (λ doc. IsDocumentOf want (I.left input.old) (I.left input.new) (I.ended input.new) doc) }
     ensures err { IfErr result (λ stop. ReadStops want (I.left input.old) (I.faults input.old) (I.faults input.new) stop) }
     ensures taken { LosesPrefix (I.left input.old) (I.left input.new) }
+    ensures calm { IsCalmBut Stop.Input (I.faults input.old) (I.faults input.new) result }
 {
     let mut reader = Reader::new(alloc, want);
     let mut piece = [0u8; PIECE];
     'reading: loop {
-        // The loop ends: each turn feeds a byte at least, and what was fed is counted in 64 bits.
-        let _ = reader.count();
+        // The loop ends: each turn feeds a byte at least, and no document has 2^41 bytes.
         let count = match input.read(&mut piece) {
             Ok(count) => count,
             Err(Failed) => return Err(Stop::Input),
@@ -53,8 +55,8 @@ pub(crate) fn read_document<I: Source>(
 
 /// Feeds the whole piece; bytes of it that stand behind a document are refused.
 fn feed_all(reader: &mut Reader, piece: &[u8]) -> Result<(), ReadRefused>
-    requires { IsOpen reader.old }
-    ensures { (want : Want) (fed : List ℕ) → Took want fed reader.old → FeedsAll want fed piece.now result reader.new }
+    requires { (want : Want) × (fed : List ℕ) × HasTaken want fed reader.old }
+    ensures { (want : Want) (fed : List ℕ) → HasTaken want fed reader.old → FeedsAll want fed piece.now result reader.new }
 {
     match reader.feed(piece) {
         Ok(Fed::More) => Ok(()),
@@ -66,7 +68,7 @@ fn feed_all(reader: &mut Reader, piece: &[u8]) -> Result<(), ReadRefused>
 /// Feeds what stands in the piece behind a document that uses so many bytes of it.
 fn feed_behind(reader: &mut Reader, piece: &[u8], used: usize) -> Result<(), ReadRefused>
     requires { used ≤ length piece.now }
-    ensures { (want : Want) (fed : List ℕ) → reader.old ≡ whole want (fed ++ take used piece.now) → FeedsAll want fed piece.now result reader.new }
+    ensures { (want : Want) (fed : List ℕ) → HasRead reader.old (whole want (fed ++ take used piece.now)) → FeedsAll want fed piece.now result reader.new }
 {
     match reader.feed(&piece[used..]) {
         Ok(_) => Ok(()),
@@ -76,7 +78,7 @@ fn feed_behind(reader: &mut Reader, piece: &[u8], used: usize) -> Result<(), Rea
 
 /// The document, at the end of the input.
 fn finish(reader: Reader) -> Result<Doc, Stop>
-    ensures { (want : Want) (fed : List ℕ) → Took want fed reader → Finishes want fed result }
+    ensures { (want : Want) (fed : List ℕ) → HasTaken want fed reader → Finishes want fed result }
 {
     match reader.finish() {
         Ok(document) => Ok(document),

@@ -4,7 +4,6 @@
 mod check;
 mod documents;
 mod plan;
-mod reasons;
 mod run;
 mod stops;
 mod words;

@@ -1,15 +1,15 @@
 //! The command `plan`: one timetable, one request, one delivery.
 
-ghost use Rattle.std.specs.Prelude.{◌≡◌, ◌≤◌, IfOk, IfErr, OnOk, OnErr};
+ghost use Rattle.std.specs.Prelude.{◌≡◌, ◌≤◌, IfOk, IfErr, OnOk, OnErr, IsTrue};
 ghost use Rattle.std.specs.Io.KnownBytes.{Appends, Keeps};
 ghost use Rattle.ojp_outside.specs.Known.{LosesPrefix};
 ghost use Rattle.ojp_values.specs.Limits.{IsWellDelivery};
-ghost use Rattle.ojp_timetable.specs.Answers.{TripAnswered};
+ghost use Rattle.ojp_region.specs.Answered.{Answered};
 ghost use Rattle.ojp_grammar.specs.Documents.{items};
 ghost use Rattle.ojp_grammar.specs.Items.{spell};
 ghost use Rattle.ojp_values.specs.declared.documents.Doc.TheVariants as docs;
-ghost use Rattle.ojp_cli.specs.Stops.{LeavesOutput};
-ghost use Rattle.ojp_cli.specs.Plans.{delivery_bytes, Ends, IsFileOf, PlanAnswers, TableStops, WriteStops};
+ghost use Rattle.ojp_cli.specs.Stops.{LeavesOutput, IsCalmBut, is_of_file};
+ghost use Rattle.ojp_cli.specs.Plans.{delivery_bytes, Ends, IsFileOf, TableStops, WriteStops};
 ghost use Rattle.ojp_cli.specs.Inputs.{IsDocumentOf, ReadStops};
 ghost use Rattle.ojp_grammar.specs.declared.refusals.Want.TheVariants as wants;
 
@@ -18,14 +18,11 @@ use crate::stops::Stop;
 use ojp_encode::write;
 use ojp_grammar::refusals::Want;
 use ojp_outside::{MemSink, Sink, Source, Store, StoreRefused, WriteFault, put_all};
+use ojp_region::answer;
 use ojp_scan::Scan;
-use ojp_scan::answers::answer_trip;
-use ojp_timetable::laws::answers_are_bounded;
 use ojp_timetable::refusals::TableRefused;
 use ojp_timetable::table::Timetable;
-use ojp_values::{
-    Ask, Delivery, Doc, EventsReply, Fault, MultiReply, NoMemory, PointsReply, TripAsk,
-};
+use ojp_values::{Ask, Delivery, Doc, NoMemory};
 use std::alloc::Global;
 
 /// Reads the timetable file and one request, and writes the delivery that answers it.
@@ -54,16 +51,21 @@ pub(crate) fn plan<I: Source, O: Sink, F: Store>(
     }) file.now result }
     ensures untouched { IfErr result (LeavesOutput (O.written output.old) (O.written output.new)) }
     ensures taken { LosesPrefix (I.left input.old) (I.left input.new) }
+    ensures files_first { IfErr result (λ stop. IsTrue (is_of_file stop) → input.new ≡ input.old) }
+    ensures calm_store { IsCalmBut Stop.File (F.faults store.old) (F.faults store.new) result }
+    ensures calm_input { IsCalmBut Stop.Input (I.faults input.old) (I.faults input.new) result }
+    ensures calm_output { IsCalmBut Stop.Output (O.faults output.old) (O.faults output.new) result }
 {
     let table = read_table(alloc, file, store)?;
     let ask = read_request(alloc, input)?;
-    let delivery = answer(alloc, &table, &ask)?;
+    let delivery = answer_ask(alloc, &table, &ask)?;
     write_delivery(alloc, delivery, output)
 }
 
 fn read_table<F: Store>(alloc: Global, file: &str, store: &mut F) -> Result<Timetable, Stop>
     ensures ok { IfOk result (λ table. IsFileOf (F.contents store.old) file.now table) }
     ensures err { IfErr result (λ stop. TableStops (F.contents store.old) (F.failed_name store.new) (F.faults store.old) (F.faults store.new) file.now stop) }
+    ensures calm { IsCalmBut Stop.File (F.faults store.old) (F.faults store.new) result }
 {
     let bytes = match store.read_file(alloc, file) {
         Ok(bytes) => bytes,
@@ -82,6 +84,7 @@ fn read_request<I: Source>(alloc: Global, input: &mut I) -> Result<Ask, Stop>
     ensures ok { IfOk result (λ ask. IsDocumentOf wants.Request (I.left input.old) (I.left input.new) (I.ended input.new) (docs.Ask ask)) }
     ensures err { IfErr result (λ stop. ReadStops wants.Request (I.left input.old) (I.faults input.old) (I.faults input.new) stop) }
     ensures taken { LosesPrefix (I.left input.old) (I.left input.new) }
+    ensures calm { IsCalmBut Stop.Input (I.faults input.old) (I.faults input.new) result }
 {
     match read_document(alloc, Want::Request, input) {
         Ok(Doc::Ask(ask)) => Ok(ask),
@@ -90,23 +93,9 @@ fn read_request<I: Source>(alloc: Global, input: &mut I) -> Result<Ask, Stop>
     }
 }
 
-/// A trip is answered by the timetable; the other three services are not served.
-fn answer(alloc: Global, table: &Timetable, ask: &Ask) -> Result<Delivery, Stop>
-    ensures ok { IfOk result (λ delivery. PlanAnswers table.now ask.now delivery) }
-    ensures well { IfOk result (λ delivery. IsWellDelivery delivery) }
-    ensures err { IfErr result (λ stop. stop ≡ Stop.Memory) }
-{
-    match ask {
-        Ask::Trip(trip) => answer_by_scan(alloc, table, trip),
-        Ask::Multi(_) => Ok(Delivery::Multi(MultiReply::Fault(Fault::NotServed))),
-        Ask::Events(_) => Ok(Delivery::Events(EventsReply::Fault(Fault::NotServed))),
-        Ask::Points(_) => Ok(Delivery::Points(PointsReply::Fault(Fault::NotServed))),
-    }
-}
-
-/// The earliest trip, or why there is none, by a search over the timetable.
-fn answer_by_scan(alloc: Global, table: &Timetable, ask: &TripAsk) -> Result<Delivery, Stop>
-    ensures ok { IfOk result (λ delivery. TripAnswered table.now ask.now delivery) }
+/// The answer of the region.
+fn answer_ask(alloc: Global, table: &Timetable, ask: &Ask) -> Result<Delivery, Stop>
+    ensures ok { IfOk result (λ delivery. Answered table.now ask.now delivery) }
     ensures well { IfOk result (λ delivery. IsWellDelivery delivery) }
     ensures err { IfErr result (λ stop. stop ≡ Stop.Memory) }
 {
@@ -114,9 +103,7 @@ fn answer_by_scan(alloc: Global, table: &Timetable, ask: &TripAsk) -> Result<Del
         Ok(scan) => scan,
         Err(NoMemory) => return Err(Stop::Memory),
     };
-    answers_are_bounded();
-    table.is_well();
-    match answer_trip(alloc, table, &mut scan, ask) {
+    match answer(alloc, table, &mut scan, ask) {
         Ok(delivery) => Ok(delivery),
         Err(NoMemory) => Err(Stop::Memory),
     }
@@ -127,6 +114,7 @@ fn write_delivery<O: Sink>(alloc: Global, delivery: Delivery, output: &mut O) ->
     requires { IsWellDelivery delivery }
     ensures ok { OnOk result (Appends (O.written output.old) (O.written output.new) (delivery_bytes delivery)) }
     ensures err { IfErr result (WriteStops (O.written output.old) (O.written output.new) (O.faults output.old) (O.faults output.new) (delivery_bytes delivery)) }
+    ensures calm { IsCalmBut Stop.Output (O.faults output.old) (O.faults output.new) result }
 {
     let document = Doc::Delivery(delivery);
     let mut spelled = MemSink::new(alloc, Vec::new(alloc));

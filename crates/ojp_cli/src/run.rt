@@ -10,13 +10,13 @@ ghost use Rattle.ojp_grammar.specs.Documents.{IsWell, IsWanted, Spells};
 ghost use Rattle.ojp_grammar.specs.Places.{IsRefused};
 ghost use Rattle.ojp_grammar.specs.declared.refusals.Want.{Want};
 ghost use Rattle.ojp_grammar.specs.declared.refusals.Reason.{Reason};
+ghost use Rattle.ojp_grammar.specs.Reasons.{refusal_text};
 ghost use Rattle.ojp_timetable.specs.Tables.{Timetable};
 ghost use Rattle.ojp_timetable.specs.Views.{reason_words};
 ghost use Rattle.ojp_timetable.specs.TableText.{IsRefused as IsTableRefused};
-ghost use Rattle.ojp_cli.specs.Reasons.{document_words};
 ghost use Rattle.ojp_timetable.specs.declared.lines.TableReason.{TableReason};
 ghost use Rattle.ojp_cli.specs.Words.{named_by, Plan, Check, IfPlan, IfCheck};
-ghost use Rattle.ojp_cli.specs.Stops.{Tells, document_text, table_text};
+ghost use Rattle.ojp_cli.specs.Stops.{Tells, table_text};
 ghost use Rattle.ojp_cli.specs.Plans.{Planned, PlannedInPart, IsAccepted, IsRefusedFile, IsTooLong, IsReadable, IsGood, FileFailed, file_limit};
 ghost use Rattle.ojp_cli.specs.Checks.{Checked, CheckedInPart};
 ghost use Rattle.ojp_cli.specs.Inputs.{IsHeard, IsNoDocument};
@@ -46,6 +46,7 @@ pub fn run_here<I: Source, O: Sink, E: Sink, F: Store>(
 
     // 2: exactly where the words are not of the form of a command.
     ensures words { (result ≡ 2) ↔ (named_by words.now ≡ None) }
+    ensures nothing_done { result ≡ 2 → (input.new ≡ input.old) × (output.new ≡ output.old) × (store.new ≡ store.old) }
     ensures bad_words { result ≡ 2 → Tells (E.written faults.old) (E.written faults.new) (E.faults faults.old) (E.faults faults.new) (codes "ojp: bad words") }
 
     // 0: the output gained just what the command writes, and standard error nothing.
@@ -59,16 +60,17 @@ pub fn run_here<I: Source, O: Sink, E: Sink, F: Store>(
     ensures no_request { result ≡ 1 → IfPlan (named_by words.now) (λ file.
         IsAccepted (F.contents store.old) file
         × ((at : ℕ) × (reason : Reason) × IsNoDocument Want.Request (I.left input.old) at reason
-        × Tells (E.written faults.old) (E.written faults.new) (E.faults faults.old) (E.faults faults.new) (document_text at (document_words reason)))) }
+        × Tells (E.written faults.old) (E.written faults.new) (E.faults faults.old) (E.faults faults.new) (refusal_text at reason))) }
     ensures no_document { result ≡ 1 → IfCheck (named_by words.now)
         ((at : ℕ) × (reason : Reason) × IsNoDocument Want.Either (I.left input.old) at reason
-        × Tells (E.written faults.old) (E.written faults.new) (E.faults faults.old) (E.faults faults.new) (document_text at (document_words reason))) }
+        × Tells (E.written faults.old) (E.written faults.new) (E.faults faults.old) (E.faults faults.new) (refusal_text at reason)) }
 
     // 3: the file could not be read, or has too many bytes; or it was accepted and the input could not be read.
     ensures unread { result ≡ 3 → IfPlan (named_by words.now) (λ file.
         (FileFailed (F.faults store.old) (F.faults store.new) (F.failed_name store.new) file
+        × (input.new ≡ input.old)
         × Tells (E.written faults.old) (E.written faults.new) (E.faults faults.old) (E.faults faults.new) (codes "store: " ++ file))
-        ⊎ ((IsTooLong (F.contents store.old) file
+        ⊎ ((IsTooLong (F.contents store.old) file × (input.new ≡ input.old)
         × Tells (E.written faults.old) (E.written faults.new) (E.faults faults.old) (E.faults faults.new) (codes "too long: " ++ file))
         ⊎ (IsAccepted (F.contents store.old) file × Rose (I.faults input.old) (I.faults input.new)
         × Tells (E.written faults.old) (E.written faults.new) (E.faults faults.old) (E.faults faults.new) (codes "input")))) }
@@ -89,9 +91,17 @@ pub fn run_here<I: Source, O: Sink, E: Sink, F: Store>(
 
     // 6: the file was read and is no timetable.
     ensures refused_file { result ≡ 6 → IfPlan (named_by words.now) (λ file.
-        (line : ℕ) × (reason : TableReason) × IsRefusedFile (F.contents store.old) file line reason
+        (line : ℕ) × (reason : TableReason) × IsRefusedFile (F.contents store.old) file line reason × (input.new ≡ input.old)
         × Tells (E.written faults.old) (E.written faults.new) (E.faults faults.old) (E.faults faults.new) (table_text file line (reason_words reason))) }
     ensures no_file { result ≡ 6 → IfCheck (named_by words.now) ⊥ }
+
+    // A count rises only where a fault is told: of the store or of the input at 3, of the output at 4.
+    ensures calm_store { result ≢ 3 → F.faults store.new ≡ F.faults store.old }
+    ensures calm_input { result ≢ 3 → I.faults input.new ≡ I.faults input.old }
+    ensures calm_output { result ≢ 4 → O.faults output.new ≡ O.faults output.old }
+
+    // `check` reads no file.
+    ensures no_file_read { IfCheck (named_by words.now) (store.new ≡ store.old) }
 
     // At every other status the output is as it was. At each, only a front of the input was taken.
     ensures untouched { result ≢ 0 → result ≢ 4 → Keeps (O.written output.old) (O.written output.new) }

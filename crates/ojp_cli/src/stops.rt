@@ -4,9 +4,9 @@ ghost use Rattle.std.specs.Prelude.{◌≡◌};
 ghost use Rattle.std.specs.List.{flat_map};
 ghost use Rattle.std.specs.Io.KnownBytes.{Appends};
 ghost use Rattle.ojp_outside.specs.Causes.{Rests};
-ghost use Rattle.ojp_cli.specs.Stops.{document_text, status_of, table_text, Tells, text_of};
+ghost use Rattle.ojp_grammar.specs.Reasons.{refusal_text};
+ghost use Rattle.ojp_cli.specs.Stops.{status_of, table_text, Tells, text_of};
 
-use crate::reasons::words_of_document;
 use itoa::Buffer;
 use ojp_grammar::refusals::Reason;
 use ojp_outside::{Sink, put_parts};
@@ -64,7 +64,7 @@ fn tell<E: Sink>(stop: Stop, file: &str, faults: &mut E)
     ensures { Tells (E.written faults.old) (E.written faults.new) (E.faults faults.old) (E.faults faults.new) (text_of file.now stop) }
 {
     match stop {
-        Stop::Document { at, reason } => tell_document(at, words_of_document(reason), faults),
+        Stop::Document { at, reason } => tell_document(at, reason, faults),
         Stop::Words => put(faults, &[b"ojp: bad words\n"]),
         Stop::File => put(faults, &[b"store: ", file.as_bytes(), b"\n"]),
         Stop::FileTooLong => put(faults, &[b"too long: ", file.as_bytes(), b"\n"]),
@@ -75,14 +75,20 @@ fn tell<E: Sink>(stop: Stop, file: &str, faults: &mut E)
     }
 }
 
-fn tell_document<E: Sink>(at: u64, reason: &str, faults: &mut E)
-    ensures { Tells (E.written faults.old) (E.written faults.new) (E.faults faults.old) (E.faults faults.new) (document_text at reason.now) }
+fn tell_document<E: Sink>(at: u64, reason: Reason, faults: &mut E)
+    ensures { Tells (E.written faults.old) (E.written faults.new) (E.faults faults.old) (E.faults faults.new) (refusal_text at reason) }
 {
     let mut digits = Buffer::new();
     let number = digits.format(at);
     put(
         faults,
-        &[b"byte ", number.as_bytes(), b": ", reason.as_bytes(), b"\n"],
+        &[
+            b"byte ",
+            number.as_bytes(),
+            b": ",
+            reason.words().as_bytes(),
+            b"\n",
+        ],
     );
 }
 

@@ -1,4 +1,4 @@
-use Rattle.ojp_cli.proofs.PlanFacts.{leaves_unwritten, written_ends}
+use Rattle.ojp_cli.proofs.PlanFacts.{leaves_unwritten, written_ends, unwritten_is_of_no_file}
 use Rattle.ojp_cli.proofs.plan.plan.Goals as goal
 
 pub returns-clause-ends : goal.returns-clause-ends
@@ -14,3 +14,6 @@ returns-clause-ends g c =
 
 pub returns-clause-untouched : goal.returns-clause-untouched
 returns-clause-untouched g c = leaves_unwritten _ _ _ _ _ _ c.write_delivery.ensures.err
+
+pub returns-clause-files_first : goal.returns-clause-files_first
+returns-clause-files_first g c = unwritten_is_of_no_file _ _ _ _ _ _ _ c.write_delivery.ensures.err
