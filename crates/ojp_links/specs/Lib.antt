@@ -1,1 +1,4 @@
 pub mod Fits
+pub mod Replies
+pub mod Seen
+pub mod Calls
