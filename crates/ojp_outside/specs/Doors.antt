@@ -1,6 +1,7 @@
 -- Doors: what was asked of them, and which connections were given and came back.
 use Rattle.std.specs.Prelude.{◌≡◌, ℕ, ◌+◌, ◌≤◌, Bool, true, false, nat_le, List, [], ◌∷◌, ◌++◌, IfSome, Option, Some, None, Result, Ok, Err}
 use Rattle.ojp_outside.specs.Causes.{next_count}
+use Rattle.ojp_outside.specs.Seen.{SourceView, SinkView}
 use Rattle.ojp_outside.specs.declared.doors.DoorRefused.{DoorRefused}
 use Rattle.ojp_outside.specs.declared.doors.DoorRefused.TheVariants.{Failed, Closed}
 
@@ -9,6 +10,10 @@ pub record Had : Type 0 where
   pub left : Option (List ℕ)
   pub input_faults : ℕ
   pub output_faults : ℕ
+
+-- what a connection has by what is seen of its input and of its output
+abbrev pub had_by : SourceView → SinkView → Had
+had_by input output = record { left = input.left; input_faults = input.faults; output_faults = output.faults }
 
 -- a connection that came back: what it had when it was given and when it came back, and what was written to it, where that is told
 pub record Entry : Type 0 where

@@ -5,5 +5,7 @@ pub mod Files
 pub mod Known
 pub mod Memory
 pub mod MemoryDoors
+pub mod MemorySeen
 pub mod Planned
+pub mod Seen
 pub mod Wanted

@@ -3,7 +3,7 @@ use Rattle.std.specs.Prelude.{ℕ, Bool, List, Option, map, string_bytes, String
 use Rattle.std.specs.declared.alloc.Global.{Global}
 
 -- a source: the bytes left, the most bytes of a read, the calls that fail, the calls and faults so far, and whether the end was seen
-pub record SourceView : Type 0 where
+pub record MemSourceView : Type 0 where
   pub left : List ℕ
   pub most : ℕ
   pub fails_at : List ℕ
@@ -12,7 +12,7 @@ pub record SourceView : Type 0 where
   pub ended : Bool
 
 -- a sink: the bytes written, the calls that fail, the calls and faults so far, and how many writes found no memory
-pub record SinkView : Type 0 where
+pub record MemSinkView : Type 0 where
   pub written : List ℕ
   pub fails_at : List ℕ
   pub calls : ℕ
@@ -24,7 +24,7 @@ abbrev pub named_contents : List (String Global × Vec ℕ Global) → List (Lis
 named_contents files = map (λ f. (string_bytes f.0, f.1.items)) files
 
 -- a store: the files by name, the name of the last read that failed, the calls that fail, and the calls and faults so far
-pub record StoreView : Type 0 where
+pub record MemStoreView : Type 0 where
   pub files : List (List ℕ × List ℕ)
   pub failed_name : Option (List ℕ)
   pub fails_at : List ℕ
@@ -32,7 +32,7 @@ pub record StoreView : Type 0 where
   pub faults : ℕ
 
 -- a clock: its moments, the place of the one that it gives next, and the one that it gave last
-pub record ClockView : Type 0 where
+pub record MemClockView : Type 0 where
   pub moments : List ℕ
   pub at : ℕ
   pub last : ℕ

@@ -1,12 +1,12 @@
 -- Doors in memory, as contracts see them.
 use Rattle.std.specs.Prelude.{ℕ, Bool, List, Option, Some, None, is_some}
 use Rattle.ojp_outside.specs.Doors.{Asked, Had, Entry, DoorsView}
-use Rattle.ojp_outside.specs.Memory.{SourceView}
+use Rattle.ojp_outside.specs.Memory.{MemSourceView}
 
 -- doors in memory: what was asked, the connections to come, the one that is out by what it had, those that came back, and the calls that fail
 pub record MemDoorsView : Type 0 where
   pub asked : Option Asked
-  pub waiting : List SourceView
+  pub waiting : List MemSourceView
   pub out : Option Had
   pub returned : List Entry
   pub given : ℕ

@@ -1,7 +1,7 @@
 //! Doors at which connections come in.
 ghost use Rattle.std.specs.Prelude.{◌≡◌, ◌≢◌, ◌≤◌, ◌↔◌, ℕ, List, [], IfOk, IfErr, OnErr, IfSome, IsSome, IsTrue, Option, Some, None, Err, true, false};
 ghost use Rattle.ojp_outside.specs.Causes.{Rose};
-ghost use Rattle.ojp_outside.specs.Doors.{DoorsView, listening, has_all, Gives, Returns};
+ghost use Rattle.ojp_outside.specs.Doors.{DoorsView, listening, has_all, had_by, Gives, Returns};
 
 use crate::{Sink, Source};
 
@@ -38,8 +38,8 @@ pub trait Doors {
     fn next(&mut self) -> Result<(Self::In, Self::Out), DoorRefused>
         requires { (seen self.old).is_out ≡ false }
         ensures given { IfOk result (λ connection. Gives (seen self.old) (seen self.new)
-            (record { left = Self.In.left connection.0; input_faults = Self.In.faults connection.0; output_faults = Self.Out.faults connection.1 })) }
-        ensures empty { IfOk result (λ connection. IfSome (Self.Out.written connection.1) (λ bytes. bytes ≡ [])) }
+            (had_by (Self.In.seen connection.0) (Self.Out.seen connection.1))) }
+        ensures empty { IfOk result (λ connection. IfSome (Self.Out.seen connection.1).written (λ bytes. bytes ≡ [])) }
         ensures kept { OnErr result (seen self.new ≡ seen self.old) }
         ensures closed { result ≡ Err DoorRefused.Closed ↔ IsTrue (has_all (seen self.old).asked (seen self.old).given) }
         ensures later { faults self.old ≤ faults self.new }
@@ -50,8 +50,7 @@ pub trait Doors {
     fn back(&mut self, input: Self::In, output: Self::Out)
         requires { (seen self.old).is_out ≡ true }
         ensures returned { Returns (seen self.old) (seen self.new)
-            (record { left = Self.In.left input; input_faults = Self.In.faults input; output_faults = Self.Out.faults output })
-            (Self.Out.written output) }
+            (had_by (Self.In.seen input) (Self.Out.seen output)) (Self.Out.seen output).written }
         ensures at_rest { faults self.new ≡ faults self.old };
 
     /// Of a connection that is out it is told what it had, where the connections that came back are told.

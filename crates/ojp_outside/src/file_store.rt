@@ -18,7 +18,7 @@ pub struct FileStore<R: Files + Drop> {
 
 impl<R: Files + Drop> FileStore<R> {
     pub fn new(files: R) -> FileStore<R>
-        ensures { ⟦<FileStore<R> as Store>⟧.faults result ≡ 0 }
+        ensures { ⟦<FileStore<R> as Store>⟧.seen result ≡ record { contents = None; failed_name = None; faults = 0 } }
     {
         FileStore { files, faults: 0 }
     }
@@ -40,11 +40,7 @@ fn read_whole<R: Files>(files: &R, alloc: Global, name: &str) -> Result<Vec<u8>,
 }
 
 impl<R: Files + Drop> Store for FileStore<R> {
-    ghost contents = { λ s. None };
-
-    ghost failed_name = { λ s. None };
-
-    ghost faults = { λ s. s.faults };
+    ghost seen = { λ s. record { contents = None; failed_name = None; faults = s.faults } };
 
     fn read_file(&mut self, alloc: Global, name: &str) -> Result<Vec<u8>, StoreRefused> {
         match read_whole(&self.files, alloc, name) {

@@ -16,9 +16,9 @@ pub struct MemClock {
 impl Model for MemClock {
     ghost use Rattle.std.specs.Prelude.{◌≤◌, ◌<◌, length, slice_index};
     ghost use Rattle.std.specs.List.Sorted.{IsNonDecreasing};
-    ghost use Rattle.ojp_outside.specs.Memory.{ClockView};
+    ghost use Rattle.ojp_outside.specs.Memory.{MemClockView};
 
-    ghost Value = { ClockView };
+    ghost Value = { MemClockView };
 
     ghost view = { λ c. record { moments = c.moments.items; at = c.at; last = c.last } };
 

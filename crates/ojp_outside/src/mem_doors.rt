@@ -2,8 +2,9 @@
 ghost use Rattle.std.specs.Prelude.{◌≡◌, ◌≢◌, ◌≤◌, ◌↔◌, ◌∷◌, [], ◌<◌, ℕ, length, map, IfOk, OnErr, OnOk, IsErr, IsTrue, Some, None, Ok, Err, true, false, slice_get, vec_capacity, vec_len, is_some, ◌⊎◌};
 ghost use Rattle.std.specs.Option.{option_map};
 ghost use Rattle.ojp_outside.specs.Causes.{Rose, next_count};
-ghost use Rattle.ojp_outside.specs.Doors.{Gives, Returns, has_all, listening, faults_after_call};
+ghost use Rattle.ojp_outside.specs.Doors.{Gives, Returns, had_by, has_all, listening, faults_after_call};
 ghost use Rattle.ojp_outside.specs.MemoryDoors.{seen_of};
+ghost use Rattle.ojp_outside.specs.MemorySeen.{source_of, sink_of};
 ghost use Rattle.ojp_outside.specs.Planned.{is_planned};
 
 use crate::connections::{Given, Returned, Waiting};
@@ -117,7 +118,7 @@ impl Doors for MemDoors {
     fn next(&mut self) -> Result<(MemSource, MemSink), DoorRefused>
         requires { is_some self.old.out ≡ false }
         ensures given { IfOk result (λ connection. Gives (seen_of self.old) (seen_of self.new)
-            (record { left = Some connection.0.left; input_faults = connection.0.faults; output_faults = connection.1.faults })) }
+            (had_by (source_of connection.0) (sink_of connection.1))) }
         ensures empty { IfOk result (λ connection. connection.1.written ≡ []) }
         ensures kept { OnErr result (seen_of self.new ≡ seen_of self.old) }
         ensures closed { result ≡ Err DoorRefused.Closed ↔ IsTrue (has_all self.old.asked self.old.given) }
@@ -155,8 +156,7 @@ impl Doors for MemDoors {
     fn back(&mut self, input: MemSource, output: MemSink)
         requires { is_some self.old.out ≡ true }
         ensures returned { Returns (seen_of self.old) (seen_of self.new)
-            (record { left = Some input.left; input_faults = input.faults; output_faults = output.faults })
-            (Some output.written) }
+            (had_by (source_of input) (sink_of output)) (Some output.written) }
         ensures at_rest { self.new.faults ≡ self.old.faults }
         ensures kept { self.new ≡ record self.old { out = None; returned = self.new.returned } }
     {

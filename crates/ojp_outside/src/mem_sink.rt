@@ -4,6 +4,7 @@ ghost use Rattle.std.specs.Io.{WritesAtMost};
 ghost use Rattle.std.specs.Io.KnownBytes.{WriteAppends};
 ghost use Rattle.ojp_outside.specs.Causes.{HasCause, next_count};
 ghost use Rattle.ojp_outside.specs.Planned.{is_planned, refused_after, faults_after};
+ghost use Rattle.ojp_outside.specs.MemorySeen.{sink_of};
 
 use crate::plan::Plan;
 use crate::{Failed, Sink};
@@ -19,9 +20,9 @@ pub struct MemSink {
 }
 
 impl Model for MemSink {
-    ghost use Rattle.ojp_outside.specs.Memory.{SinkView};
+    ghost use Rattle.ojp_outside.specs.Memory.{MemSinkView};
 
-    ghost Value = { SinkView };
+    ghost Value = { MemSinkView };
 
     ghost view = { λ s. record { written = s.bytes.items; fails_at = s.plan.fails_at.items; calls = s.plan.calls; faults = s.plan.faults; refused = s.refused } };
 }
@@ -54,9 +55,7 @@ impl MemSink {
 }
 
 impl Sink for MemSink {
-    ghost written = { λ s. Some s.written };
-
-    ghost faults = { λ s. s.faults };
+    ghost seen = { sink_of };
 
     fn write(&mut self, from: &[u8]) -> Result<usize, Failed>
         ensures bound { WritesAtMost result from.now }

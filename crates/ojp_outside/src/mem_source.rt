@@ -5,6 +5,7 @@ ghost use Rattle.std.specs.Io.KnownBytes.{ReadConsumes};
 ghost use Rattle.ojp_outside.specs.Causes.{HasCause, next_count};
 ghost use Rattle.ojp_outside.specs.Known.{ended_by};
 ghost use Rattle.ojp_outside.specs.Planned.{is_planned, faults_after};
+ghost use Rattle.ojp_outside.specs.MemorySeen.{source_of};
 
 use crate::plan::Plan;
 use crate::source::sees_end;
@@ -23,9 +24,9 @@ pub struct MemSource {
 
 impl Model for MemSource {
     ghost use Rattle.std.specs.Prelude.{◌≡◌, ◌≤◌, ◌<◌, ℕ, drop, length, true};
-    ghost use Rattle.ojp_outside.specs.Memory.{SourceView};
+    ghost use Rattle.ojp_outside.specs.Memory.{MemSourceView};
 
-    ghost Value = { SourceView };
+    ghost Value = { MemSourceView };
 
     ghost view = { λ s. record { left = drop s.at s.bytes.items; most = s.most; fails_at = s.plan.fails_at.items; calls = s.plan.calls; faults = s.plan.faults; ended = s.ended } };
 
@@ -73,11 +74,7 @@ fn copy_front(from: &[u8], into: &mut [u8], most: usize) -> usize
 }
 
 impl Source for MemSource {
-    ghost left = { λ s. Some s.left };
-
-    ghost ended = { λ s. s.ended };
-
-    ghost faults = { λ s. s.faults };
+    ghost seen = { source_of };
 
     fn read(&mut self, into: &mut [u8]) -> Result<usize, Failed>
         ensures bound { ReadsAtMost result into.new }

@@ -5,6 +5,7 @@ ghost use Rattle.std.specs.Option.{option_map};
 ghost use Rattle.ojp_outside.specs.Memory.{named_contents};
 ghost use Rattle.ojp_outside.specs.Causes.{Rose, next_count};
 ghost use Rattle.ojp_outside.specs.Planned.{is_planned};
+ghost use Rattle.ojp_outside.specs.MemorySeen.{store_of};
 ghost use Rattle.ojp_outside.specs.Files.{failed_name_after, faults_after_read, IsContents, first_named};
 
 use crate::plan::Plan;
@@ -23,9 +24,9 @@ pub struct MemStore {
 impl Model for MemStore {
     ghost use Rattle.std.specs.Option.{option_map};
     ghost use Rattle.std.specs.Prelude.{string_bytes};
-    ghost use Rattle.ojp_outside.specs.Memory.{StoreView, named_contents};
+    ghost use Rattle.ojp_outside.specs.Memory.{MemStoreView, named_contents};
 
-    ghost Value = { StoreView };
+    ghost Value = { MemStoreView };
 
     ghost view = { λ s. record { files = named_contents s.files.items; failed_name = option_map string_bytes s.failed_name; fails_at = s.plan.fails_at.items; calls = s.plan.calls; faults = s.plan.faults } };
 }
@@ -72,11 +73,7 @@ fn find_named<'a>(files: &'a [(String, Vec<u8>)], name: &str) -> Option<&'a [u8]
 }
 
 impl Store for MemStore {
-    ghost contents = { λ s. Some (first_named s.files) };
-
-    ghost failed_name = { λ s. Some s.failed_name };
-
-    ghost faults = { λ s. s.faults };
+    ghost seen = { store_of };
 
     #[tactic(auto, using(crate::proofs::Named::first_named_is))]
     fn read_file(&mut self, alloc: Global, name: &str) -> Result<Vec<u8>, StoreRefused>

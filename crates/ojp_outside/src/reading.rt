@@ -27,13 +27,13 @@ pub fn read_all<S: Source>(
     most: usize,
 ) -> Result<Vec<u8>, ReadRefused>
     ensures within { IfOk result (λ bytes. vec_len bytes ≤ most) }
-    ensures taken { IfOk result (λ bytes. Consumes (S.left source.old) (S.left source.new) bytes.items) }
-    ensures at_end { IfOk result (λ bytes. vec_len bytes < most → IsAtEnd (S.left source.new)) }
-    ensures ended { IfOk result (λ bytes. vec_len bytes < most → IsTrue (S.ended source.new)) }
-    ensures lost { OnErr result (LosesPrefix (S.left source.old) (S.left source.new)) }
-    ensures later { S.faults source.old ≤ S.faults source.new }
-    ensures at_rest { result ≢ Err ReadRefused.Failed → S.faults source.new ≡ S.faults source.old }
-    ensures failed { result ≡ Err ReadRefused.Failed → Rose (S.faults source.old) (S.faults source.new) }
+    ensures taken { IfOk result (λ bytes. Consumes (S.seen source.old).left (S.seen source.new).left bytes.items) }
+    ensures at_end { IfOk result (λ bytes. vec_len bytes < most → IsAtEnd (S.seen source.new).left) }
+    ensures ended { IfOk result (λ bytes. vec_len bytes < most → IsTrue (S.seen source.new).ended) }
+    ensures lost { OnErr result (LosesPrefix (S.seen source.old).left (S.seen source.new).left) }
+    ensures later { (S.seen source.old).faults ≤ (S.seen source.new).faults }
+    ensures at_rest { result ≢ Err ReadRefused.Failed → (S.seen source.new).faults ≡ (S.seen source.old).faults }
+    ensures failed { result ≡ Err ReadRefused.Failed → Rose (S.seen source.old).faults (S.seen source.new).faults }
 {
     let mut taken: Vec<u8> = Vec::new(alloc);
     let mut piece = [0u8; 8192];

@@ -13,17 +13,14 @@ pub struct StdSink<W: Write + Drop> {
 
 impl<W: Write + Drop> StdSink<W> {
     pub fn new(writer: W) -> StdSink<W>
-        ensures written { ⟦<StdSink<W> as Sink>⟧.written result ≡ W.contents writer }
-        ensures faults { ⟦<StdSink<W> as Sink>⟧.faults result ≡ 0 }
+        ensures { ⟦<StdSink<W> as Sink>⟧.seen result ≡ record { written = W.contents writer; faults = 0 } }
     {
         StdSink { writer, faults: 0 }
     }
 }
 
 impl<W: Write + Drop> Sink for StdSink<W> {
-    ghost written = { λ s. W.contents s.writer };
-
-    ghost faults = { λ s. s.faults };
+    ghost seen = { λ s. record { written = W.contents s.writer; faults = s.faults } };
 
     fn write(&mut self, from: &[u8]) -> Result<usize, Failed> {
         match self.writer.write(from) {

@@ -17,9 +17,7 @@ pub struct StdSource<R: Read + Drop> {
 
 impl<R: Read + Drop> StdSource<R> {
     pub fn new(reader: R) -> StdSource<R>
-        ensures left { ⟦<StdSource<R> as Source>⟧.left result ≡ R.remaining reader }
-        ensures ended { ⟦<StdSource<R> as Source>⟧.ended result ≡ false }
-        ensures faults { ⟦<StdSource<R> as Source>⟧.faults result ≡ 0 }
+        ensures { ⟦<StdSource<R> as Source>⟧.seen result ≡ record { left = R.remaining reader; ended = false; faults = 0 } }
     {
         StdSource {
             reader,
@@ -27,14 +25,15 @@ impl<R: Read + Drop> StdSource<R> {
             ended: false,
         }
     }
+
+    /// The reader itself.
+    pub(crate) fn into_reader(self) -> R {
+        self.reader
+    }
 }
 
 impl<R: Read + Drop> Source for StdSource<R> {
-    ghost left = { λ s. R.remaining s.reader };
-
-    ghost ended = { λ s. s.ended };
-
-    ghost faults = { λ s. s.faults };
+    ghost seen = { λ s. record { left = R.remaining s.reader; ended = s.ended; faults = s.faults } };
 
     fn read(&mut self, into: &mut [u8]) -> Result<usize, Failed> {
         if self.ended {

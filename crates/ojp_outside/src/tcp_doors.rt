@@ -6,8 +6,21 @@ ghost use Rattle.ojp_outside.specs.Wanted.{asked_of};
 use crate::wanted::{Wanted, is_complete};
 use crate::{DoorRefused, Doors, Sink, StdSink, StdSource};
 use std::io;
-use std::io::{Read, Write};
-use std::net::{IpAddr, Ipv4Addr, Net, OpenListener, OpenStream, SocketAddr};
+use std::io::{ErrorKind, Read, Write};
+use std::net::{IpAddr, Ipv4Addr, Net, OpenListener, OpenStream, Shutdown, SocketAddr};
+use std::time::Duration;
+
+/// A read or a write that makes no progress for so many seconds fails.
+const PATIENCE: u64 = 30;
+
+/// So many seconds the next piece is waited for of what a client still sends when its connection is
+/// given back.
+const REST_PATIENCE: u64 = 1;
+
+/// The most bytes of such a piece, and the most pieces: 4 MiB in all.
+const REST_PIECE: usize = 16_384;
+
+const REST_PIECES: usize = 256;
 
 /// A writer that tells nothing of what it holds, as a socket does not.
 #[derive(Drop)]
@@ -53,17 +66,51 @@ impl<N: Net + Drop> TcpDoors<N> {
     }
 }
 
-/// The two halves of the next connection.
-fn accept<L: OpenListener>(
-    listener: &Option<L>,
-) -> Option<(StdSource<L::Stream>, StdSink<Untold<L::Stream>>)>
-where
-    L::Stream: Read + Write + OpenStream,
-    ensures { IfSome result (λ halves. ⟦<StdSink<Untold<L::Stream>> as Sink>⟧.written halves.1 ≡ None) }
+/// The next connection. One that was reset before it was taken is passed over.
+fn accept<L: OpenListener>(listener: &L) -> Option<L::Stream> {
+    for _ in 0..u64::MAX {
+        match listener.accept() {
+            Ok((stream, _)) => return Some(stream),
+            Err(error) => match error.kind() {
+                ErrorKind::ConnectionAborted | ErrorKind::ConnectionReset => {}
+                _ => return None,
+            },
+        }
+    }
+    None
+}
+
+/// The two halves of a connection, which sends at once what is written, and whose reads and writes
+/// fail that make no progress.
+fn halves<T: Read + Write + OpenStream + Drop>(
+    stream: T,
+) -> Option<(StdSource<T>, StdSink<Untold<T>>)>
+    ensures { IfSome result (λ halves. (⟦<StdSink<Untold<T>> as Sink>⟧.seen halves.1).written ≡ None) }
 {
-    let (stream, _) = listener.as_ref()?.accept().ok()?;
+    let patience = Duration::from_secs(PATIENCE);
+    stream.set_nodelay(true).ok()?;
+    stream.set_read_timeout(Some(patience)).ok()?;
+    stream.set_write_timeout(Some(patience)).ok()?;
     let writer = stream.try_clone().ok()?;
     Some((StdSource::new(stream), StdSink::new(Untold { writer })))
+}
+
+/// Ends a connection: nothing more is written to it, and a bounded rest of what the client sends is
+/// read. Where bytes are unread at its end, the system takes back from the client what it was sent.
+fn hang_up<T: Read + OpenStream + Drop>(stream: T) {
+    let mut stream = stream;
+    let patience = Duration::from_secs(REST_PATIENCE);
+    let is_open = stream.shutdown(Shutdown::Write).is_ok();
+    if !is_open || stream.set_read_timeout(Some(patience)).is_err() {
+        return;
+    }
+    let mut piece = [0u8; REST_PIECE];
+    for _ in 0..REST_PIECES {
+        match stream.read(&mut piece) {
+            Ok(count) if count > 0 => {}
+            _ => return,
+        }
+    }
 }
 
 impl<N: Net + Drop> Doors for TcpDoors<N> {
@@ -98,7 +145,11 @@ impl<N: Net + Drop> Doors for TcpDoors<N> {
         if is_complete(self.wanted, self.given) {
             return Err(DoorRefused::Closed);
         }
-        match accept(&self.listener) {
+        let stream = match &self.listener {
+            Some(listener) => accept(listener),
+            None => None,
+        };
+        match stream.and_then(halves) {
             Some(halves) => {
                 self.given = self.given.saturating_add(1);
                 self.is_out = true;
@@ -111,7 +162,8 @@ impl<N: Net + Drop> Doors for TcpDoors<N> {
         }
     }
 
-    fn back(&mut self, _input: Self::In, _output: Self::Out) {
+    fn back(&mut self, input: Self::In, _output: Self::Out) {
+        hang_up(input.into_reader());
         self.is_out = false;
     }
 }

@@ -2,7 +2,7 @@
 use crate::*;
 use std::fs;
 use std::io::Cursor;
-use std::net::TcpStream;
+use std::net::{Shutdown, TcpStream};
 use std::test::Fail;
 
 #[test]
@@ -154,16 +154,22 @@ fn tcp_doors_listen_on_this_machine(rt: HostRuntime) -> Result<(), Fail> {
         }
     }
     let address = format!(in alloc; "127.0.0.1:{port}")?;
-    let mut peer = StdSink::new(TcpStream::connect(&rt, address.as_str())?);
-    put_all(&mut peer, b"ask")?;
+    // The client sends more than is read, and has the answer to its end all the same.
+    let stream = TcpStream::connect(&rt, address.as_str())?;
+    let mut peer = StdSink::new(stream.try_clone()?);
+    put_all(&mut peer, [b'a'; 40_000].as_slice())?;
+    stream.shutdown(Shutdown::Write)?;
     match doors.next() {
-        Ok((mut input, output)) => {
+        Ok((mut input, mut output)) => {
             let bytes = read_all(alloc, &mut input, 3)?;
-            assert_eq!(rt; bytes.as_slice(), b"ask".as_slice());
+            assert_eq!(rt; bytes.as_slice(), b"aaa".as_slice());
+            put_all(&mut output, b"answer")?;
             doors.back(input, output);
         }
         Err(_) => assert!(rt; false),
     }
+    let answer = read_all(alloc, &mut StdSource::new(stream), 9)?;
+    assert_eq!(rt; answer.as_slice(), b"answer".as_slice());
     assert_eq!(rt; doors.next().err(), Some(DoorRefused::Closed));
     Ok(())
 }

@@ -4,7 +4,7 @@ use Rattle.ojp_outside.proofs.reading.read_all.Given as goal
 
 abbrev pub invariant-reading : goal.invariant-reading
 invariant-reading g l =
-    Takes (g.S.Source.left l.fn.source) (g.S.Source.left l.source) l.taken.items (g.S.Source.faults l.fn.source) (g.S.Source.faults l.source)
+    Takes (g.S.Source.seen l.fn.source).left (g.S.Source.seen l.source).left l.taken.items (g.S.Source.seen l.fn.source).faults (g.S.Source.seen l.source).faults
     × (vec_len l.taken ≤ l.most) × (length l.piece ≡ 8192)
 
 abbrev pub decreases-reading : goal.decreases-reading
