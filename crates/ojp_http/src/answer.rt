@@ -50,9 +50,9 @@ type Head = ArrayVec<u8, HEAD_ROOM>;
 /// `WriteFault` where a write failed; a prefix of the head is written then.
 pub fn write_response_head<S: Sink>(status: u16, size: u64, sink: &mut S) -> Result<(), WriteFault>
     requires { IsTrue (is_answer_status status) }
-    ensures ok { OnOk result (Appends (S.written sink.old) (S.written sink.new) (response_head status size)) }
-    ensures err { OnErr result (AppendsPrefix (S.written sink.old) (S.written sink.new) (response_head status size)) }
-    ensures cause { HasCause (S.faults sink.old) (S.faults sink.new) result }
+    ensures ok { OnOk result (Appends (S.seen sink.old).written (S.seen sink.new).written (response_head status size)) }
+    ensures err { OnErr result (AppendsPrefix (S.seen sink.old).written (S.seen sink.new).written (response_head status size)) }
+    ensures cause { HasCause (S.seen sink.old).faults (S.seen sink.new).faults result }
 {
     put_all(sink, head_of(status, size).as_slice())
 }
@@ -64,9 +64,9 @@ pub fn write_response_head<S: Sink>(status: u16, size: u64, sink: &mut S) -> Res
 /// `WriteFault` where a write failed; a prefix of the response is written then.
 pub fn write_response<S: Sink>(status: u16, text: &[u8], sink: &mut S) -> Result<(), WriteFault>
     requires { IsTrue (is_answer_status status) }
-    ensures ok { OnOk result (Appends (S.written sink.old) (S.written sink.new) (response status text.now)) }
-    ensures err { OnErr result (AppendsPrefix (S.written sink.old) (S.written sink.new) (response status text.now)) }
-    ensures cause { HasCause (S.faults sink.old) (S.faults sink.new) result }
+    ensures ok { OnOk result (Appends (S.seen sink.old).written (S.seen sink.new).written (response status text.now)) }
+    ensures err { OnErr result (AppendsPrefix (S.seen sink.old).written (S.seen sink.new).written (response status text.now)) }
+    ensures cause { HasCause (S.seen sink.old).faults (S.seen sink.new).faults result }
 {
     let head = head_of(status, text.len() as u64);
     put_parts(sink, &[head.as_slice(), text])
@@ -80,9 +80,9 @@ pub fn write_response<S: Sink>(status: u16, text: &[u8], sink: &mut S) -> Result
 pub fn write_refusal<S: Sink>(refusal: HttpRefusal, sink: &mut S) -> Result<(), WriteFault>
     requires read { refusal ≢ HttpRefusal.ReadFault }
     requires memory { refusal ≢ HttpRefusal.NoMemory }
-    ensures ok { OnOk result (Appends (S.written sink.old) (S.written sink.new) (refusal_response refusal)) }
-    ensures err { OnErr result (AppendsPrefix (S.written sink.old) (S.written sink.new) (refusal_response refusal)) }
-    ensures cause { HasCause (S.faults sink.old) (S.faults sink.new) result }
+    ensures ok { OnOk result (Appends (S.seen sink.old).written (S.seen sink.new).written (refusal_response refusal)) }
+    ensures err { OnErr result (AppendsPrefix (S.seen sink.old).written (S.seen sink.new).written (refusal_response refusal)) }
+    ensures cause { HasCause (S.seen sink.old).faults (S.seen sink.new).faults result }
 {
     let name = refusal.name().as_bytes();
     let head = head_of(refusal.status(), name.len() as u64 + 1);
@@ -150,9 +150,9 @@ fn reason_of(status: u16) -> &'static str
 ///
 /// `WriteFault` where a write failed; a prefix of the response is written then.
 pub fn write_no_memory<S: Sink>(sink: &mut S) -> Result<(), WriteFault>
-    ensures ok { OnOk result (Appends (S.written sink.old) (S.written sink.new) no_memory_response) }
-    ensures err { OnErr result (AppendsPrefix (S.written sink.old) (S.written sink.new) no_memory_response) }
-    ensures cause { HasCause (S.faults sink.old) (S.faults sink.new) result }
+    ensures ok { OnOk result (Appends (S.seen sink.old).written (S.seen sink.new).written no_memory_response) }
+    ensures err { OnErr result (AppendsPrefix (S.seen sink.old).written (S.seen sink.new).written no_memory_response) }
+    ensures cause { HasCause (S.seen sink.old).faults (S.seen sink.new).faults result }
 {
     put_all(
         sink,

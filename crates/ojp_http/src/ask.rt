@@ -45,12 +45,12 @@ fn refusal_of(stop: Stop) -> HttpRefusal
 /// `ReadFault` where a read failed, `NoMemory`, and else the refusal that the bytes of the source give,
 /// in whatever pieces they come.
 pub fn read_request<I: Source>(alloc: Global, input: &mut I) -> Result<List<u8>, HttpRefusal>
-    ensures allowed { Allows (I.left input.old) result }
-    ensures taken { ReadsNoFurther (I.left input.old) (I.left input.new) }
+    ensures allowed { Allows (I.seen input.old).left result }
+    ensures taken { ReadsNoFurther (I.seen input.old).left (I.seen input.new).left }
     ensures most { IfOk result (λ body. length body ≤ 1048576) }
-    ensures later { I.faults input.old ≤ I.faults input.new }
-    ensures at_rest { result ≢ Err HttpRefusal.ReadFault → I.faults input.new ≡ I.faults input.old }
-    ensures fault { result ≡ Err HttpRefusal.ReadFault → Rose (I.faults input.old) (I.faults input.new) }
+    ensures later { (I.seen input.old).faults ≤ (I.seen input.new).faults }
+    ensures at_rest { result ≢ Err HttpRefusal.ReadFault → (I.seen input.new).faults ≡ (I.seen input.old).faults }
+    ensures fault { result ≡ Err HttpRefusal.ReadFault → Rose (I.seen input.old).faults (I.seen input.new).faults }
 {
     let mut framing = Framing::request(alloc);
     let mut body: Vec<u8> = Vec::new(alloc);

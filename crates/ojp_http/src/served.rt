@@ -25,9 +25,7 @@ pub enum Served {
 /// Serves a connection with this response.
 pub fn respond<S: Sink>(status: u16, text: &[u8], sink: &mut S) -> Served
     requires { IsTrue (is_answer_status status) }
-    ensures { WritesAs status (response status text.now)
-        (record { written = S.written sink.old; faults = S.faults sink.old })
-        (record { written = S.written sink.new; faults = S.faults sink.new }) result }
+    ensures { WritesAs status (response status text.now) (S.seen sink.old) (S.seen sink.new) result }
 {
     match write_response(status, text, sink) {
         Ok(()) => Served::Answered(status),
@@ -40,8 +38,7 @@ pub fn refuse<S: Sink>(refusal: HttpRefusal, sink: &mut S) -> Served
     requires read { refusal ≢ HttpRefusal.ReadFault }
     requires memory { refusal ≢ HttpRefusal.NoMemory }
     ensures { WritesAs (refusal_status refusal) (refusal_response refusal)
-        (record { written = S.written sink.old; faults = S.faults sink.old })
-        (record { written = S.written sink.new; faults = S.faults sink.new }) result }
+        (S.seen sink.old) (S.seen sink.new) result }
 {
     match write_refusal(refusal, sink) {
         Ok(()) => Served::Answered(refusal.status()),
@@ -52,9 +49,7 @@ pub fn refuse<S: Sink>(refusal: HttpRefusal, sink: &mut S) -> Served
 /// Serves a connection for which there is no memory.
 pub fn give_up<S: Sink>(sink: &mut S) -> Served
     ensures served { result ≡ Served.NoMemory }
-    ensures written { WritesNoMemory
-        (record { written = S.written sink.old; faults = S.faults sink.old })
-        (record { written = S.written sink.new; faults = S.faults sink.new }) }
+    ensures written { WritesNoMemory (S.seen sink.old) (S.seen sink.new) }
 {
     // Where this write fails too, nobody is left to be told.
     let _ = write_no_memory(sink);

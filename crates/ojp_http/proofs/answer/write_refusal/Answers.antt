@@ -15,12 +15,12 @@ parts refusal head name status size n s z h =
 
 pub returns-clause-ok : goal.returns-clause-ok
 returns-clause-ok g c =
-    subst (λ (l : List ℕ). OnOk c.put_parts.result (Appends (g.S.Sink.written c.args.sink.now) (g.S.Sink.written c.put_parts.new.sink) l))
+    subst (λ (l : List ℕ). OnOk c.put_parts.result (Appends (g.S.Sink.seen c.args.sink.now).written (g.S.Sink.seen c.put_parts.new.sink).written l))
     (parts c.args.refusal _ _ c.status.result _ (c.as_bytes-name.ensures.value ∙ c.name.ensures) c.status.ensures refl (c.as_slice.ensures.value ∙ c.head_of-head.ensures))
     c.put_parts.ensures.ok
 
 pub returns-clause-err : goal.returns-clause-err
 returns-clause-err g c =
-    subst (λ (l : List ℕ). OnErr c.put_parts.result (AppendsPrefix (g.S.Sink.written c.args.sink.now) (g.S.Sink.written c.put_parts.new.sink) l))
+    subst (λ (l : List ℕ). OnErr c.put_parts.result (AppendsPrefix (g.S.Sink.seen c.args.sink.now).written (g.S.Sink.seen c.put_parts.new.sink).written l))
     (parts c.args.refusal _ _ c.status.result _ (c.as_bytes-name.ensures.value ∙ c.name.ensures) c.status.ensures refl (c.as_slice.ensures.value ∙ c.head_of-head.ensures))
     c.put_parts.ensures.err

@@ -13,12 +13,12 @@ pub returns-then-count-eq0-clause-allowed : goal.returns-then-count-eq0-clause-a
 returns-then-count-eq0-clause-allowed g c =
     let some : 0 < length c.read.new.into = omega (arith, c.read.auto.into, c.reading.invariant.1) in
     allows_cut _ _ _ c.reading.framing c.reading.framing [] c.reading.body.items [] _ _ 0 0 c.reading.invariant.0
-    (subst (λ (n : ℕ). Consumes (g.I.Source.left c.reading.input) (g.I.Source.left c.read.new.self) (take n c.read.new.into)) c.if-count-eq0.true c.in-Ok.ensures.bytes.0)
+    (subst (λ (n : ℕ). Consumes (g.I.Source.seen c.reading.input).left (g.I.Source.seen c.read.new.self).left (take n c.read.new.into)) c.if-count-eq0.true c.in-Ok.ensures.bytes.0)
     (c.in-Ok.ensures.bytes.1 c.if-count-eq0.true some)
 
 pub returns-in-Err-feed-clause-allowed : goal.returns-in-Err-feed-clause-allowed
 returns-in-Err-feed-clause-allowed g c =
-    subst (λ (r : HttpRefusal). Allows (g.I.Source.left c.args.input.now) (Err r)) (sym c.refusal_of.ensures)
+    subst (λ (r : HttpRefusal). Allows (g.I.Source.seen c.args.input.now).left (Err r)) (sym c.refusal_of.ensures)
     (allows_stop _ _ _ c.reading.framing c.feed.new.self _ c.reading.body.items c.feed.new.body.items _ _ 0 0 c.reading.invariant.0 c.in-Ok.ensures.bytes.0 c.in-Err-feed.stop c.in-Err-feed.ensures)
 
 pub returns-in-Err-feed-clause-taken : goal.returns-in-Err-feed-clause-taken
@@ -27,7 +27,7 @@ returns-in-Err-feed-clause-taken g c = stops_behind _ _ _ c.reading.framing c.re
 
 pub returns-then-is_whole-clause-allowed : goal.returns-then-is_whole-clause-allowed
 returns-then-is_whole-clause-allowed g c =
-    subst (λ (r : List ℕ). Allows (g.I.Source.left c.args.input.now) (Ok r)) (sym c.from_items.ensures)
+    subst (λ (r : List ℕ). Allows (g.I.Source.seen c.args.input.now).left (Ok r)) (sym c.from_items.ensures)
     (allows_whole _ _ _ c.reading.framing c.feed.new.self _ c.reading.body.items c.feed.new.body.items _ _ 0 _ c.reading.invariant.0 c.in-Ok.ensures.bytes.0 c.in-Ok-feed.ensures (sym c.is_whole.ensures ∙ c.if-is_whole.true))
 
 pub returns-then-is_whole-clause-taken : goal.returns-then-is_whole-clause-taken

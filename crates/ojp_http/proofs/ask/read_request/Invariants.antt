@@ -4,7 +4,7 @@ use Rattle.ojp_http.proofs.ask.read_request.Given as goal
 
 abbrev pub invariant-reading : goal.invariant-reading
 invariant-reading g l =
-    HasRead (g.I.Source.left l.fn.input) (g.I.Source.left l.input) l.framing l.body.items (g.I.Source.faults l.fn.input) (g.I.Source.faults l.input)
+    HasRead (g.I.Source.seen l.fn.input).left (g.I.Source.seen l.input).left l.framing l.body.items (g.I.Source.seen l.fn.input).faults (g.I.Source.seen l.input).faults
     × (length l.piece ≡ 8192)
 
 abbrev pub decreases-reading : goal.decreases-reading
