@@ -23,10 +23,10 @@ use ojp_values::Doc;
 /// `WriteFault` where a write failed; a prefix of the document is written then.
 pub fn write<S: Sink>(doc: &Doc, sink: &mut S) -> Result<(), WriteFault>
     requires { IsWell doc.now }
-    ensures ok { OnOk result (Appends (S.written sink.old) (S.written sink.new) (spell (items doc.now))) }
-    ensures err { OnErr result (AppendsPrefix (S.written sink.old) (S.written sink.new) (spell (items doc.now))) }
+    ensures ok { OnOk result (Appends (S.seen sink.old).written (S.seen sink.new).written (spell (items doc.now))) }
+    ensures err { OnErr result (AppendsPrefix (S.seen sink.old).written (S.seen sink.new).written (spell (items doc.now))) }
     ensures well { OnOk result (grammar.IsWell doc.now) }
-    ensures cause { HasCause (S.faults sink.old) (S.faults sink.new) result }
+    ensures cause { HasCause (S.seen sink.old).faults (S.seen sink.new).faults result }
 {
     doc.put(sink)
 }

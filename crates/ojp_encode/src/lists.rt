@@ -9,7 +9,7 @@ use ojp_outside::{Sink, WriteFault, put_all, put_parts};
 
 /// Writes the parts one after another.
 pub fn put<S: Sink>(sink: &mut S, parts: &[&[u8]]) -> Result<(), WriteFault>
-    ensures { Writes (S.written sink.old) (S.written sink.new) (S.faults sink.old) (S.faults sink.new)
+    ensures { Writes (S.seen sink.old).written (S.seen sink.new).written (S.seen sink.old).faults (S.seen sink.new).faults
         (flat_map (λ part. part.now) parts.now) result }
 {
     put_parts(sink, parts)
@@ -23,7 +23,7 @@ pub fn put_around<S: Sink, T: Spelled>(
     behind: &[u8],
 ) -> Result<(), WriteFault>
     requires { T.is_well inner.now }
-    ensures spelled { Writes (S.written sink.old) (S.written sink.new) (S.faults sink.old) (S.faults sink.new)
+    ensures spelled { Writes (S.seen sink.old).written (S.seen sink.new).written (S.seen sink.old).faults (S.seen sink.new).faults
         (flat_map (λ part. part.now) before.now ++ (T.bytes inner.now ++ behind.now)) result }
     ensures fits { OnOk result (T.fits inner.now) }
 {
@@ -40,7 +40,7 @@ pub fn put_list<S: Sink, T: Spelled>(
     behind: &[u8],
 ) -> Result<(), WriteFault>
     requires { All T.is_well items.now }
-    ensures spelled { Writes (S.written sink.old) (S.written sink.new) (S.faults sink.old) (S.faults sink.new)
+    ensures spelled { Writes (S.seen sink.old).written (S.seen sink.new).written (S.seen sink.old).faults (S.seen sink.new).faults
         (flat_map (λ part. part.now) before.now ++ (flat_map T.bytes items.now ++ behind.now)) result }
     ensures fits { OnOk result (All T.fits items.now) }
 {
@@ -52,7 +52,7 @@ pub fn put_list<S: Sink, T: Spelled>(
 /// Writes the items one after another.
 fn put_each<S: Sink, T: Spelled>(sink: &mut S, items: &[T]) -> Result<(), WriteFault>
     requires { All T.is_well items.now }
-    ensures spelled { Writes (S.written sink.old) (S.written sink.new) (S.faults sink.old) (S.faults sink.new)
+    ensures spelled { Writes (S.seen sink.old).written (S.seen sink.new).written (S.seen sink.old).faults (S.seen sink.new).faults
         (flat_map T.bytes items.now) result }
     ensures fits { OnOk result (All T.fits items.now) }
 {
@@ -63,7 +63,7 @@ fn put_each<S: Sink, T: Spelled>(sink: &mut S, items: &[T]) -> Result<(), WriteF
 }
 
 fn put_end<S: Sink>(sink: &mut S, text: &[u8]) -> Result<(), WriteFault>
-    ensures { Writes (S.written sink.old) (S.written sink.new) (S.faults sink.old) (S.faults sink.new)
+    ensures { Writes (S.seen sink.old).written (S.seen sink.new).written (S.seen sink.old).faults (S.seen sink.new).faults
         text.now result }
 {
     put_all(sink, text)

@@ -22,7 +22,7 @@ pub trait Spelled {
     /// Writes it.
     fn put<S: Sink>(&self, sink: &mut S) -> Result<(), WriteFault>
         requires { is_well self.now }
-        ensures spelled { Writes (S.written sink.old) (S.written sink.new) (S.faults sink.old) (S.faults sink.new)
+        ensures spelled { Writes (S.seen sink.old).written (S.seen sink.new).written (S.seen sink.old).faults (S.seen sink.new).faults
             (bytes self.now) result }
         ensures fits { OnOk result (fits self.now) };
 

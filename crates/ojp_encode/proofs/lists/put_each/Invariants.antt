@@ -5,7 +5,7 @@ use Rattle.ojp_encode.proofs.lists.put_each.Given as goal
 
 abbrev pub invariant-loop-item : goal.invariant-loop-item
 invariant-loop-item g l = record {
-  spelled : Writes (g.S.Sink.written l.fn.sink) (g.S.Sink.written l.sink) (g.S.Sink.faults l.fn.sink) (g.S.Sink.faults l.sink)
+  spelled : Writes (g.S.Sink.seen l.fn.sink).written (g.S.Sink.seen l.sink).written (g.S.Sink.seen l.fn.sink).faults (g.S.Sink.seen l.sink).faults
       (flat_map g.T.Spelled.bytes (take l.item-index l.fn.items)) (Ok tt);
   fits : All g.T.Spelled.fits (take l.item-index l.fn.items);
 }
