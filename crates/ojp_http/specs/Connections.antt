@@ -14,6 +14,9 @@ pub record Wire : Type 0 where
   pub input : SourceView
   pub output : SinkView
 
+abbrev pub wire : SourceView → SinkView → Wire
+wire input output = record { input = input; output = output }
+
 -- the counts of faults stand still
 pub record IsCalm (old new : Wire) : Type 0 where
   pub reads : new.input.faults ≡ old.input.faults

@@ -3,7 +3,7 @@
 ghost use Rattle.std.specs.Prelude.{◌≡◌};
 ghost use Rattle.ojp_grammar.specs.Answering.{AnswersBody};
 ghost use Rattle.ojp_http.specs.Asking.{ReadsNoFurther};
-ghost use Rattle.ojp_http.specs.Connections.{Serves};
+ghost use Rattle.ojp_http.specs.Connections.{Serves, wire};
 ghost use Rattle.ojp_scan.specs.Scans.{IsMadeFor};
 ghost use Rattle.ojp_region.specs.Answered.{Answered};
 
@@ -27,10 +27,8 @@ pub fn serve_one<I: Source, O: Sink>(
     requires made { IsMadeFor scan.old table.now }
     ensures made { IsMadeFor scan.new table.now }
     ensures serves { Serves (AnswersBody (Answered table.now))
-        (record { left = I.left input.old; written = O.written output.old; read_faults = I.faults input.old; write_faults = O.faults output.old })
-        (record { left = I.left input.new; written = O.written output.new; read_faults = I.faults input.new; write_faults = O.faults output.new })
-        result }
-    ensures taken { ReadsNoFurther (I.left input.old) (I.left input.new) }
+        (wire (I.seen input.old) (O.seen output.old)) (wire (I.seen input.new) (O.seen output.new)) result }
+    ensures taken { ReadsNoFurther (I.seen input.old).left (I.seen input.new).left }
 {
     match read_request(alloc, input) {
         Ok(body) => match answer_body(alloc, table, scan, body.as_slice()) {
