@@ -20,20 +20,20 @@ pub(crate) fn check<I: Source, O: Sink>(
     output: &mut O,
 ) -> Result<(), Stop>
     ensures ends { Ends (record {
-      left = I.left input.old;
-      left_now = I.left input.new;
-      ended_now = I.ended input.new;
-      input_faults = I.faults input.old;
-      input_faults_now = I.faults input.new;
-      written = O.written output.old;
-      written_now = O.written output.new;
-      output_faults = O.faults output.old;
-      output_faults_now = O.faults output.new;
+      left = (I.seen input.old).left;
+      left_now = (I.seen input.new).left;
+      ended_now = (I.seen input.new).ended;
+      input_faults = (I.seen input.old).faults;
+      input_faults_now = (I.seen input.new).faults;
+      written = (O.seen output.old).written;
+      written_now = (O.seen output.new).written;
+      output_faults = (O.seen output.old).faults;
+      output_faults_now = (O.seen output.new).faults;
     }) result }
-    ensures untouched { IfErr result (LeavesOutput (O.written output.old) (O.written output.new)) }
-    ensures taken { LosesPrefix (I.left input.old) (I.left input.new) }
-    ensures calm_input { IsCalmBut Stop.Input (I.faults input.old) (I.faults input.new) result }
-    ensures calm_output { IsCalmBut Stop.Output (O.faults output.old) (O.faults output.new) result }
+    ensures untouched { IfErr result (LeavesOutput (O.seen output.old).written (O.seen output.new).written) }
+    ensures taken { LosesPrefix (I.seen input.old).left (I.seen input.new).left }
+    ensures calm_input { IsCalmBut Stop.Input (I.seen input.old).faults (I.seen input.new).faults result }
+    ensures calm_output { IsCalmBut Stop.Output (O.seen output.old).faults (O.seen output.new).faults result }
 {
     let document = read_document(alloc, Want::Either, input)?;
     let name = name_of(&document);

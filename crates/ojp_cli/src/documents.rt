@@ -30,10 +30,10 @@ pub(crate) fn read_document<I: Source>(
     want: Want,
     input: &mut I,
 ) -> Result<Doc, Stop>
-    ensures ok { IfOk result (λ doc. IsDocumentOf want (I.left input.old) (I.left input.new) (I.ended input.new) doc) }
-    ensures err { IfErr result (λ stop. ReadStops want (I.left input.old) (I.faults input.old) (I.faults input.new) stop) }
-    ensures taken { LosesPrefix (I.left input.old) (I.left input.new) }
-    ensures calm { IsCalmBut Stop.Input (I.faults input.old) (I.faults input.new) result }
+    ensures ok { IfOk result (λ doc. IsDocumentOf want (I.seen input.old).left (I.seen input.new).left (I.seen input.new).ended doc) }
+    ensures err { IfErr result (λ stop. ReadStops want (I.seen input.old).left (I.seen input.old).faults (I.seen input.new).faults stop) }
+    ensures taken { LosesPrefix (I.seen input.old).left (I.seen input.new).left }
+    ensures calm { IsCalmBut Stop.Input (I.seen input.old).faults (I.seen input.new).faults result }
 {
     let mut reader = Reader::new(alloc, want);
     let mut piece = [0u8; PIECE];

@@ -34,27 +34,27 @@ pub(crate) fn plan<I: Source, O: Sink, F: Store>(
     store: &mut F,
 ) -> Result<(), Stop>
     ensures ends { Ends (record {
-      contents = F.contents store.old;
-      failed_name = F.failed_name store.new;
-      faults = F.faults store.old;
-      faults_now = F.faults store.new;
+      contents = (F.seen store.old).contents;
+      failed_name = (F.seen store.new).failed_name;
+      faults = (F.seen store.old).faults;
+      faults_now = (F.seen store.new).faults;
     }) (record {
-      left = I.left input.old;
-      left_now = I.left input.new;
-      ended_now = I.ended input.new;
-      input_faults = I.faults input.old;
-      input_faults_now = I.faults input.new;
-      written = O.written output.old;
-      written_now = O.written output.new;
-      output_faults = O.faults output.old;
-      output_faults_now = O.faults output.new;
+      left = (I.seen input.old).left;
+      left_now = (I.seen input.new).left;
+      ended_now = (I.seen input.new).ended;
+      input_faults = (I.seen input.old).faults;
+      input_faults_now = (I.seen input.new).faults;
+      written = (O.seen output.old).written;
+      written_now = (O.seen output.new).written;
+      output_faults = (O.seen output.old).faults;
+      output_faults_now = (O.seen output.new).faults;
     }) file.now result }
-    ensures untouched { IfErr result (LeavesOutput (O.written output.old) (O.written output.new)) }
-    ensures taken { LosesPrefix (I.left input.old) (I.left input.new) }
+    ensures untouched { IfErr result (LeavesOutput (O.seen output.old).written (O.seen output.new).written) }
+    ensures taken { LosesPrefix (I.seen input.old).left (I.seen input.new).left }
     ensures files_first { IfErr result (λ stop. IsTrue (is_of_file stop) → input.new ≡ input.old) }
-    ensures calm_store { IsCalmBut Stop.File (F.faults store.old) (F.faults store.new) result }
-    ensures calm_input { IsCalmBut Stop.Input (I.faults input.old) (I.faults input.new) result }
-    ensures calm_output { IsCalmBut Stop.Output (O.faults output.old) (O.faults output.new) result }
+    ensures calm_store { IsCalmBut Stop.File (F.seen store.old).faults (F.seen store.new).faults result }
+    ensures calm_input { IsCalmBut Stop.Input (I.seen input.old).faults (I.seen input.new).faults result }
+    ensures calm_output { IsCalmBut Stop.Output (O.seen output.old).faults (O.seen output.new).faults result }
 {
     let table = read_table(alloc, file, store)?;
     let ask = read_request(alloc, input)?;
@@ -63,9 +63,9 @@ pub(crate) fn plan<I: Source, O: Sink, F: Store>(
 }
 
 fn read_table<F: Store>(alloc: Global, file: &str, store: &mut F) -> Result<Timetable, Stop>
-    ensures ok { IfOk result (λ table. IsFileOf (F.contents store.old) file.now table) }
-    ensures err { IfErr result (λ stop. TableStops (F.contents store.old) (F.failed_name store.new) (F.faults store.old) (F.faults store.new) file.now stop) }
-    ensures calm { IsCalmBut Stop.File (F.faults store.old) (F.faults store.new) result }
+    ensures ok { IfOk result (λ table. IsFileOf (F.seen store.old).contents file.now table) }
+    ensures err { IfErr result (λ stop. TableStops (F.seen store.old).contents (F.seen store.new).failed_name (F.seen store.old).faults (F.seen store.new).faults file.now stop) }
+    ensures calm { IsCalmBut Stop.File (F.seen store.old).faults (F.seen store.new).faults result }
 {
     let bytes = match store.read_file(alloc, file) {
         Ok(bytes) => bytes,
@@ -81,10 +81,10 @@ fn read_table<F: Store>(alloc: Global, file: &str, store: &mut F) -> Result<Time
 }
 
 fn read_request<I: Source>(alloc: Global, input: &mut I) -> Result<Ask, Stop>
-    ensures ok { IfOk result (λ ask. IsDocumentOf wants.Request (I.left input.old) (I.left input.new) (I.ended input.new) (docs.Ask ask)) }
-    ensures err { IfErr result (λ stop. ReadStops wants.Request (I.left input.old) (I.faults input.old) (I.faults input.new) stop) }
-    ensures taken { LosesPrefix (I.left input.old) (I.left input.new) }
-    ensures calm { IsCalmBut Stop.Input (I.faults input.old) (I.faults input.new) result }
+    ensures ok { IfOk result (λ ask. IsDocumentOf wants.Request (I.seen input.old).left (I.seen input.new).left (I.seen input.new).ended (docs.Ask ask)) }
+    ensures err { IfErr result (λ stop. ReadStops wants.Request (I.seen input.old).left (I.seen input.old).faults (I.seen input.new).faults stop) }
+    ensures taken { LosesPrefix (I.seen input.old).left (I.seen input.new).left }
+    ensures calm { IsCalmBut Stop.Input (I.seen input.old).faults (I.seen input.new).faults result }
 {
     match read_document(alloc, Want::Request, input) {
         Ok(Doc::Ask(ask)) => Ok(ask),
@@ -112,9 +112,9 @@ fn answer_ask(alloc: Global, table: &Timetable, ask: &Ask) -> Result<Delivery, S
 /// Spells the delivery in memory and writes it at once.
 fn write_delivery<O: Sink>(alloc: Global, delivery: Delivery, output: &mut O) -> Result<(), Stop>
     requires { IsWellDelivery delivery }
-    ensures ok { OnOk result (Appends (O.written output.old) (O.written output.new) (delivery_bytes delivery)) }
-    ensures err { IfErr result (WriteStops (O.written output.old) (O.written output.new) (O.faults output.old) (O.faults output.new) (delivery_bytes delivery)) }
-    ensures calm { IsCalmBut Stop.Output (O.faults output.old) (O.faults output.new) result }
+    ensures ok { OnOk result (Appends (O.seen output.old).written (O.seen output.new).written (delivery_bytes delivery)) }
+    ensures err { IfErr result (WriteStops (O.seen output.old).written (O.seen output.new).written (O.seen output.old).faults (O.seen output.new).faults (delivery_bytes delivery)) }
+    ensures calm { IsCalmBut Stop.Output (O.seen output.old).faults (O.seen output.new).faults result }
 {
     let document = Doc::Delivery(delivery);
     let mut spelled = MemSink::new(alloc, Vec::new(alloc));

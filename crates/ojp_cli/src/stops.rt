@@ -54,14 +54,14 @@ impl Stop {
 /// Writes the text of a stop as one line and gives its status. A write that fails changes no status.
 pub(crate) fn report<E: Sink>(stop: Stop, file: &str, faults: &mut E) -> u8
     ensures status { result ≡ status_of stop }
-    ensures told { Tells (E.written faults.old) (E.written faults.new) (E.faults faults.old) (E.faults faults.new) (text_of file.now stop) }
+    ensures told { Tells (E.seen faults.old).written (E.seen faults.new).written (E.seen faults.old).faults (E.seen faults.new).faults (text_of file.now stop) }
 {
     tell(stop, file, faults);
     stop.status()
 }
 
 fn tell<E: Sink>(stop: Stop, file: &str, faults: &mut E)
-    ensures { Tells (E.written faults.old) (E.written faults.new) (E.faults faults.old) (E.faults faults.new) (text_of file.now stop) }
+    ensures { Tells (E.seen faults.old).written (E.seen faults.new).written (E.seen faults.old).faults (E.seen faults.new).faults (text_of file.now stop) }
 {
     match stop {
         Stop::Document { at, reason } => tell_document(at, reason, faults),
@@ -76,7 +76,7 @@ fn tell<E: Sink>(stop: Stop, file: &str, faults: &mut E)
 }
 
 fn tell_document<E: Sink>(at: u64, reason: Reason, faults: &mut E)
-    ensures { Tells (E.written faults.old) (E.written faults.new) (E.faults faults.old) (E.faults faults.new) (refusal_text at reason) }
+    ensures { Tells (E.seen faults.old).written (E.seen faults.new).written (E.seen faults.old).faults (E.seen faults.new).faults (refusal_text at reason) }
 {
     let mut digits = Buffer::new();
     let number = digits.format(at);
@@ -93,7 +93,7 @@ fn tell_document<E: Sink>(at: u64, reason: Reason, faults: &mut E)
 }
 
 fn tell_table<E: Sink>(file: &str, line: u64, reason: &str, faults: &mut E)
-    ensures { Tells (E.written faults.old) (E.written faults.new) (E.faults faults.old) (E.faults faults.new) (table_text file.now line reason.now) }
+    ensures { Tells (E.seen faults.old).written (E.seen faults.new).written (E.seen faults.old).faults (E.seen faults.new).faults (table_text file.now line reason.now) }
 {
     let mut digits = Buffer::new();
     let number = digits.format(line);
@@ -112,8 +112,8 @@ fn tell_table<E: Sink>(file: &str, line: u64, reason: &str, faults: &mut E)
 
 /// Writes the parts; nobody can be told of a fault on standard error.
 fn put<E: Sink>(faults: &mut E, parts: &[&[u8]])
-    ensures { Rests (E.faults faults.old) (E.faults faults.new)
-        → Appends (E.written faults.old) (E.written faults.new) (flat_map (λ part. part.now) parts.now) }
+    ensures { Rests (E.seen faults.old).faults (E.seen faults.new).faults
+        → Appends (E.seen faults.old).written (E.seen faults.new).written (flat_map (λ part. part.now) parts.now) }
 {
     let _ = put_parts(faults, parts);
 }

@@ -17,8 +17,8 @@ returns-in-Err-clause-taken g c = kept_lost _ _ _ _ _ _ _ c.reading.invariant.0 
 
 pub returns-then-count-eq0-clause-ok : goal.returns-then-count-eq0-clause-ok
 returns-then-count-eq0-clause-ok g c =
-    let none : Consumes (g.I.Source.left c.reading.input) (g.I.Source.left c.read.new.self) [] =
-    subst (λ (n : ℕ). Consumes (g.I.Source.left c.reading.input) (g.I.Source.left c.read.new.self) (take n c.read.new.into)) c.if-count-eq0.true c.in-Ok.ensures.bytes.0 in
+    let none : Consumes (g.I.Source.seen c.reading.input).left (g.I.Source.seen c.read.new.self).left [] =
+    subst (λ (n : ℕ). Consumes (g.I.Source.seen c.reading.input).left (g.I.Source.seen c.read.new.self).left (take n c.read.new.into)) c.if-count-eq0.true c.in-Ok.ensures.bytes.0 in
     let some : 0 < length c.read.new.into = omega (arith, c.read.auto.into, c.reading.invariant.1) in
     let room : length c.read.new.into ≡ 8192 = omega (arith, c.read.auto.into, c.reading.invariant.1) in
     (ends_all _ _ _ _ _ _ 0 _ c.reading.invariant.0 none (c.in-Ok.ensures.bytes.1 c.if-count-eq0.true some) _ c.finish.result (sees_end _ _ _ _ c.in-Ok.ensures.end c.if-count-eq0.true room)
@@ -26,8 +26,8 @@ returns-then-count-eq0-clause-ok g c =
 
 pub returns-then-count-eq0-clause-err : goal.returns-then-count-eq0-clause-err
 returns-then-count-eq0-clause-err g c =
-    let none : Consumes (g.I.Source.left c.reading.input) (g.I.Source.left c.read.new.self) [] =
-    subst (λ (n : ℕ). Consumes (g.I.Source.left c.reading.input) (g.I.Source.left c.read.new.self) (take n c.read.new.into)) c.if-count-eq0.true c.in-Ok.ensures.bytes.0 in
+    let none : Consumes (g.I.Source.seen c.reading.input).left (g.I.Source.seen c.read.new.self).left [] =
+    subst (λ (n : ℕ). Consumes (g.I.Source.seen c.reading.input).left (g.I.Source.seen c.read.new.self).left (take n c.read.new.into)) c.if-count-eq0.true c.in-Ok.ensures.bytes.0 in
     let some : 0 < length c.read.new.into = omega (arith, c.read.auto.into, c.reading.invariant.1) in
     let room : length c.read.new.into ≡ 8192 = omega (arith, c.read.auto.into, c.reading.invariant.1) in
     (ends_all _ _ _ _ _ _ _ _ c.reading.invariant.0 none (c.in-Ok.ensures.bytes.1 c.if-count-eq0.true some) _ c.finish.result (sees_end _ _ _ _ c.in-Ok.ensures.end c.if-count-eq0.true room)
@@ -41,7 +41,7 @@ feed_all-requires g c = (_, c.reading.invariant.0.fed, c.reading.invariant.0.too
 
 pub returns-in-Err-feed_all-clause-err : goal.returns-in-Err-feed_all-clause-err
 returns-in-Err-feed_all-clause-err g c =
-    subst (λ (stop : Stop). ReadStops c.args.want (g.I.Source.left c.args.input.now) (g.I.Source.faults c.args.input.now) (g.I.Source.faults c.read.new.self) stop) (sym c.stop_for.ensures)
+    subst (λ (stop : Stop). ReadStops c.args.want (g.I.Source.seen c.args.input.now).left (g.I.Source.seen c.args.input.now).faults (g.I.Source.seen c.read.new.self).faults stop) (sym c.stop_for.ensures)
     (stops_early _ _ _ _ _ _ _ _ c.reading.invariant.0 _ c.in-Ok.ensures.bytes.0 c.in-Err-feed_all.refused _ (c.in-Err-feed_all.ensures _ _ c.reading.invariant.0.took))
 
 pub returns-in-Err-feed_all-clause-taken : goal.returns-in-Err-feed_all-clause-taken

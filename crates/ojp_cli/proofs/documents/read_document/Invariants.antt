@@ -4,7 +4,7 @@ use Rattle.ojp_cli.proofs.documents.read_document.Given as goal
 
 abbrev pub invariant-reading : goal.invariant-reading
 invariant-reading g l =
-    HasFed l.fn.want (g.I.Source.left l.fn.input) (g.I.Source.left l.input) (g.I.Source.faults l.fn.input) (g.I.Source.faults l.input) l.reader
+    HasFed l.fn.want (g.I.Source.seen l.fn.input).left (g.I.Source.seen l.input).left (g.I.Source.seen l.fn.input).faults (g.I.Source.seen l.input).faults l.reader
     × (length l.piece ≡ 8192)
 
 -- what was fed grows, and no document is so long
