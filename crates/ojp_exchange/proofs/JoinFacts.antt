@@ -21,8 +21,9 @@ use Rattle.ojp_exchange.specs.Book.{HasChange, HasReturn, IsAgreed, Link, link_l
 use Rattle.ojp_exchange.specs.Disputes.{AllReturn, IsFirstLacking, IsFirstPoint, Returns}
 use Rattle.ojp_exchange.specs.Joins.{AreWellLists, IsFirstDispute, IsLeastTwice, IsOneSided, first_twice}
 use Rattle.ojp_exchange.specs.Kept.{AreKept, HasNoChange, Says, SaysNothing, book_of, entry_lt, entry_same, link_of, links_of}
-use Rattle.ojp_exchange.proofs.MadeFacts.{among_flat, among_map, are_kept, code_list, point_list, points_rise, flat_among, later_neighbour, later_point, map_among, own_codes, times_sorted}
+use Rattle.ojp_exchange.proofs.MadeFacts.{among_flat, among_map, code_list, point_list, points_rise, flat_among, later_neighbour, later_point, map_among, own_codes, times_sorted}
 use Rattle.ojp_exchange.proofs.CodeFacts.{rises, twice}
+use Rattle.ojp_exchange.proofs.KeptFacts.{are_kept}
 use Rattle.ojp_exchange.proofs.RisingFacts.{each_among, entry_order, rising_at}
 use Rattle.ojp_exchange.proofs.SortFacts.{one_way, sorted_list}
 

@@ -5,6 +5,8 @@ pub mod SortFacts
 pub mod CodeFacts
 pub mod StopFacts
 pub mod MadeFacts
+pub mod KeptFacts
 pub mod JoinFacts
 pub mod StretchFacts
 pub mod WellBook
+pub mod SpotFacts

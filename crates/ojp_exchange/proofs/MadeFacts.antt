@@ -101,7 +101,7 @@ own_codes lists codes p rise code =
 
 -- ---- the points
 
-region_in : (lists : List RegionPoints) (point : Point) → AreWellLists lists → Among point (point_list lists) → (list : RegionPoints) × Among list lists × Among point list.points × (point.region ≡ list.code)
+pub region_in : (lists : List RegionPoints) (point : Point) → AreWellLists lists → Among point (point_list lists) → (list : RegionPoints) × Among list lists × Among point list.points × (point.region ≡ list.code)
 region_in lists point well a =
     let found = among_flat (λ (list : RegionPoints). list.points) lists point a in
     let good = each_among (λ (list : RegionPoints). AreWellPoints list.code list.points) lists found.0 well found.1 in
@@ -149,26 +149,6 @@ pub points_rise : (lists : List RegionPoints) (points : List Point) → AreWellL
 points_rise lists points well own p sorted =
     rising_from entry_lt entry_same entry_order points sorted
     (λ z. let few = one_each lists z well own in omega (arith, few, sum_by-IsPermutation (λ (x : Point). cond (entry_same z x) 1 0) (point_list lists) points p))
-
--- ---- what is kept
-
-pub are_kept : (lists : List RegionPoints) (codes : List Text) (points : List Point) → AreWellLists lists → IsPermutation (code_list lists) codes → IsPermutation (point_list lists) points
-    → IsRising text_lt codes → IsRising entry_lt points → AreKept codes points
-are_kept lists codes points well pc pp codes_rise rise =
-    let of : (x : Point) → Among x points → (list : RegionPoints) × Among list lists × Among x list.points × (x.region ≡ list.code) =
-    λ x a. region_in lists x well (among_back (point_list lists) points x pp a) in
-    let good : (list : RegionPoints) → Among list lists → AreWellPoints list.code list.points = λ list a. each_among (λ (l : RegionPoints). AreWellPoints l.code l.points) lists list well a in
-    record {
-      codes_rise = codes_rise;
-      rise = rise;
-      own = each_of (λ (x : Point). IsPointOf x.region x) points (λ x a.
-          let at = of x a in
-          subst (λ (t : Text). IsPointOf t x) (sym at.3) (each_among (IsPointOf at.0.code) at.0.points x (good at.0 at.1).each at.2));
-      bounded = each_of IsWellPoint points (λ x a. let at = of x a in each_among IsWellPoint at.0.points x (good at.0 at.1).bounded at.2);
-      known = each_of (λ (x : Point). Among x.region codes) points (λ x a.
-          let at = of x a in
-          among_moved (code_list lists) codes x.region pc (subst (λ (t : Text). Among t (code_list lists)) (sym at.3) (map_among (λ (l : RegionPoints). l.code) lists at.0 at.1)));
-    }
 
 -- ---- the lists of the book rise
 

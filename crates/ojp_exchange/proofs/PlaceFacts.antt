@@ -12,7 +12,7 @@ use Rattle.ojp_timetable.proofs.Orders.{and_true, both}
 use Rattle.ojp_timetable.proofs.ReadFacts.{among_at, at_among, read_once}
 use Rattle.ojp_timetable.proofs.TextFacts.{is_same, same_is}
 use Rattle.ojp_exchange.specs.Kept.{HasNoPoint, IsPointAt, Says, SaysNothing, entry_lt, entry_same}
-use Rattle.ojp_exchange.specs.Places.{HasNeighbour, HasNoNeighbour}
+use Rattle.ojp_exchange.specs.Points.{HasNeighbour, HasNoNeighbour}
 use Rattle.ojp_exchange.proofs.RisingFacts.{entry_order, rising_at}
 
 -- what is looked for

@@ -13,7 +13,7 @@ use Rattle.ojp_timetable.proofs.ReadFacts.{read_once}
 use Rattle.ojp_timetable.proofs.TextFacts.{is_same, same_is}
 use Rattle.ojp_exchange.specs.Book.{Spot}
 use Rattle.ojp_exchange.specs.Kept.{book_of, entry_lt, regions_of, spot_of}
-use Rattle.ojp_exchange.specs.Places.{AreParted, IsStretch}
+use Rattle.ojp_exchange.specs.Points.{AreParted, IsStretch}
 use Rattle.ojp_exchange.proofs.RisingFacts.{rising_at}
 
 -- the points before low are at earlier stops, and those from high on are not

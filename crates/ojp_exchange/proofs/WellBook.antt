@@ -1,17 +1,17 @@
 -- What is kept makes a book that is well.
-use Rattle.std.proofs.Common.{◌≡◌, ◌≢◌, true, List, sym, ◌∙◌, subst}
+use Rattle.std.proofs.Common.{◌≡◌, ◌≢◌, arith, true, List, sym, ◌∙◌, subst}
 use Rattle.std.specs.List.{All}
 use Rattle.std.proofs.lemmas.Option.{get_or_from_slice_get, slice_get_within}
 use Rattle.ojp_values.specs.Limits.{IsChange, IsWellNeighbour, IsWellPoint}
 use Rattle.ojp_values.specs.Lists.{Among}
-use Rattle.ojp_values.specs.Texts.{Text, is_exchange}
+use Rattle.ojp_values.specs.Texts.{Text, is_exchange, same}
 use Rattle.ojp_values.specs.declared.trips.Neighbour.{Neighbour}
 use Rattle.ojp_values.specs.declared.trips.Point.{Point}
 use Rattle.ojp_timetable.specs.Points.{IsPointOf}
 use Rattle.ojp_timetable.proofs.ReadFacts.{at_among}
 use Rattle.ojp_exchange.specs.Book.{Spot}
 use Rattle.ojp_exchange.specs.Kept.{AreKept, IsSound, IsWellBook, book_of, spot_of}
-use Rattle.ojp_exchange.proofs.MadeFacts.{among_map, links_rise, map_among, spots_rise}
+use Rattle.ojp_exchange.proofs.MadeFacts.{among_map, count_map, links_rise, map_among, spots_rise}
 use Rattle.ojp_exchange.proofs.JoinFacts.{link_says}
 use Rattle.ojp_exchange.proofs.RisingFacts.{each_among}
 
@@ -26,6 +26,7 @@ well_book codes points kept sound = record {
   spots_rise = spots_rise points kept.rise;
   links_rise = links_rise points kept.rise kept.own;
   sound = sound;
+  few = λ region. omega (arith, kept.few region, count_map spot_of (λ (spot : Spot). same region spot.region) points);
   exchange = λ spot a.
       let at = among_map spot_of points spot a in
       subst (λ (s : Spot). is_exchange s.stop ≡ true) at.2 (each_among (λ (x : Point). IsPointOf x.region x) points at.0 kept.own at.1).exchange;

@@ -7,19 +7,16 @@ use Rattle.ojp_values.specs.declared.trips.Neighbour.{Neighbour}
 use Rattle.ojp_values.specs.declared.trips.Point.{Point}
 use Rattle.ojp_exchange.specs.declared.region_points.RegionPoints.{RegionPoints}
 use Rattle.ojp_timetable.specs.Tables.{Timetable}
+use Rattle.ojp_exchange.specs.declared.spots.Spot.{Spot as OneSpot}
+use Rattle.ojp_exchange.specs.declared.spots.Link.{Link as OneLink}
 
 -- the region declares the exchange point, with its own change time there
-pub record Spot : Type 0 where
-  pub stop : Text
-  pub region : Text
-  pub change : ℕ
+abbrev pub Spot : Type 0
+Spot = OneSpot
 
 -- the region declares the other one at the exchange point, with the time for a change from it
-pub record Link : Type 0 where
-  pub stop : Text
-  pub region : Text
-  pub other : Text
-  pub change : ℕ
+abbrev pub Link : Type 0
+Link = OneLink
 
 -- the codes of the regions, what each declares, and which neighbours each declares
 pub record Book : Type 0 where

@@ -1,6 +1,6 @@
 -- What a book keeps: the exchange points of all regions by rising stop and region.
 use Rattle.std.specs.Prelude.{◌≡◌, ◌≢◌, ℕ, ◌≤◌, ◌&&◌, ◌||◌, Bool, true, List, [], ◌∷◌, map, Option, Some, None, if◌then◌else◌, length, slice_get}
-use Rattle.std.specs.List.{filter, flat_map}
+use Rattle.std.specs.List.{count_by, filter, flat_map}
 use Rattle.ojp_values.specs.Limits.{IsChange, IsWellPoint}
 use Rattle.ojp_values.specs.Lists.{Among, Each, IsRising}
 use Rattle.ojp_values.specs.Texts.{Text, is_exchange, same, text_lt}
@@ -62,10 +62,12 @@ pub record Says (points : List Point) (stop region other : Text) (change : ℕ) 
 abbrev pub SaysNothing : List Point → Text → Text → Text → Type 0
 SaysNothing points stop region other = (change : ℕ) → Says points stop region other change → ⊥
 
--- what a book keeps of the lists: regions and points that rise, each point well and of a region
+-- what a book keeps of the lists: regions and points that rise, at most 255 points of a region, each point well and of a
+-- region
 pub record AreKept (codes : List Text) (points : List Point) : Type 0 where
   pub codes_rise : IsRising text_lt codes
   pub rise : IsRising entry_lt points
+  pub few : (region : Text) → count_by (λ (point : Point). same region point.region) points ≤ 255
   pub own : Each (λ (point : Point). IsPointOf point.region point) points
   pub bounded : Each IsWellPoint points
   pub known : Each (λ (point : Point). Among point.region codes) points
@@ -105,12 +107,14 @@ abbrev pub ArePointsAt : Book → Option Text → List Point → Type 0
 ArePointsAt book place found = (points : List Point) × ArePointsOf book points × (found ≡ points_at place points)
 
 -- what holds of every book: its lists rise; it is within its limits and agreed; its spots are exchange points of its
--- regions; a link is to another region, and declared by one that has its spot there; each change time is in range
+-- regions, at most 255 of each; a link is to another region, and declared by one that has its spot there; each change
+-- time is in range
 pub record IsWellBook (book : Book) : Type 0 where
   pub codes_rise : IsRising text_lt book.codes
   pub spots_rise : IsRising spot_lt book.spots
   pub links_rise : IsRising link_lt book.links
   pub sound : IsSound book
+  pub few : (region : Text) → count_by (λ (spot : Spot). same region spot.region) book.spots ≤ 255
   pub exchange : (spot : Spot) → Among spot book.spots → is_exchange spot.stop ≡ true
   pub known : (spot : Spot) → Among spot book.spots → Among spot.region book.codes
   pub spot_times : (spot : Spot) → Among spot book.spots → IsChange spot.change

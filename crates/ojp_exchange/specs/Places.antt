@@ -1,27 +1,54 @@
--- Look-ups among exchange points that rise.
-use Rattle.std.specs.Prelude.{◌≡◌, ℕ, ◌<◌, ◌≤◌, true, false, List, Some, length, slice_get}
-use Rattle.ojp_values.specs.Lists.{Among}
-use Rattle.ojp_values.specs.Texts.{Text, same, text_lt}
-use Rattle.ojp_values.specs.declared.trips.Neighbour.{Neighbour}
-use Rattle.ojp_values.specs.declared.trips.Point.{Point}
+-- The places of a book, which are the numbers of its spots: who may change where, and which of them lead on.
+use Rattle.std.specs.Prelude.{◌≡◌, ℕ, List, Bool, ◌&&◌, Some, slice_get, ◌↔◌}
+use Rattle.std.specs.List.{filter}
+use Rattle.ojp_values.specs.Lists.{Among, Pairwise}
+use Rattle.ojp_values.specs.Texts.{Text, same}
+use Rattle.ojp_exchange.specs.declared.spots.Edge.{Edge}
+use Rattle.ojp_exchange.specs.Book.{Book, Link, Spot, leads_out}
 
--- the code is declared with that time
-abbrev pub HasNeighbour : List Neighbour → Text → ℕ → Type 0
-HasNeighbour neighbours code change = (neighbour : Neighbour) × Among neighbour neighbours × (neighbour.code ≡ code) × (neighbour.change ≡ change)
+-- the spot stands at the place
+abbrev pub IsSpotAt : Book → ℕ → Spot → Type 0
+IsSpotAt book place spot = slice_get book.spots place ≡ Some spot
 
-abbrev pub HasNoNeighbour : List Neighbour → Text → Type 0
-HasNoNeighbour neighbours code = (neighbour : Neighbour) → Among neighbour neighbours → neighbour.code ≡ code → ⊥
+-- the spot of the region at the stop stands at the place
+pub record IsPairAt (book : Book) (place : ℕ) (stop region : Text) : Type 0 where
+  pub spot : Spot
+  pub at : IsSpotAt book place spot
+  pub stop_is : spot.stop ≡ stop
+  pub region_is : spot.region ≡ region
 
--- the points at stops before that one are just the first so many
-pub record AreParted (points : List Point) (stop : Text) (count : ℕ) : Type 0 where
-  pub within : count ≤ length points
-  pub below : (k : ℕ) (point : Point) → slice_get points k ≡ Some point → k < count → text_lt point.stop stop ≡ true
-  pub above : (k : ℕ) (point : Point) → slice_get points k ≡ Some point → count ≤ k → text_lt point.stop stop ≡ false
+-- the region declares no such stop
+abbrev pub NoPairAt : Book → Text → Text → Type 0
+NoPairAt book stop region = (place : ℕ) → IsPairAt book place stop region → ⊥
 
--- the points at the stop are just those from the one number to before the other
-pub record IsStretch (points : List Point) (stop : Text) (from to : ℕ) : Type 0 where
-  pub order : from ≤ to
-  pub within : to ≤ length points
-  pub before : (k : ℕ) (point : Point) → slice_get points k ≡ Some point → k < from → same stop point.stop ≡ false
-  pub inside : (k : ℕ) (point : Point) → slice_get points k ≡ Some point → from ≤ k → k < to → same stop point.stop ≡ true
-  pub behind : (k : ℕ) (point : Point) → slice_get points k ≡ Some point → to ≤ k → same stop point.stop ≡ false
+-- one who arrived at the one place may change to the other in so much time
+pub record IsEdge (book : Book) (from to change : ℕ) : Type 0 where
+  pub link : Link
+  pub listed : Among link book.links
+  pub time : link.change ≡ change
+  pub arrives : IsPairAt book from link.stop link.other
+  pub leaves : IsPairAt book to link.stop link.region
+
+-- the edge to the place with the time for the change
+abbrev pub edge_to : ℕ → ℕ → Edge
+edge_to to change = record { to = to; change = change }
+
+-- the edges are the changes from the place
+abbrev pub AreEdges : Book → ℕ → List Edge → Type 0
+AreEdges book place edges = (to change : ℕ) → Among (edge_to to change) edges ↔ IsEdge book place to change
+
+-- the code has the number among the codes
+abbrev pub IsCodeAt : List Text → ℕ → Text → Type 0
+IsCodeAt codes number code = slice_get codes number ≡ Some code
+
+-- the code is none of these
+abbrev pub IsNoCode : List Text → Text → Type 0
+IsNoCode codes code = (number : ℕ) → IsCodeAt codes number code → ⊥
+
+-- the spot is one of the region, and leads on to another region
+abbrev pub leads_on : Book → Text → Spot → Bool
+leads_on book region spot = same region spot.region && leads_out book region spot.stop
+
+-- the places are those of the region that lead on, rising
+abbrev pub AreWays : Book → Text → List ℕ → Type 0
+AreWays book region ways = Pairwise (IsSpotAt book) ways (filter (leads_on book region) book.spots)

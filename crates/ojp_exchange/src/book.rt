@@ -1,15 +1,17 @@
 //! The book of a list of regions.
 
-ghost use Rattle.std.specs.Prelude.{◌≡◌, length, IfOk, IfErr, MatchOption};
-ghost use Rattle.ojp_exchange.specs.Book.{HasChange};
-ghost use Rattle.ojp_exchange.specs.Kept.{ArePointsAt, HasNoChange, IsWellBook};
+ghost use Rattle.std.specs.Prelude.{◌≡◌, ◌<◌, length, IfOk, IfErr, MatchOption};
+ghost use Rattle.ojp_exchange.specs.Book.{HasChange, is_home, serves};
+ghost use Rattle.ojp_exchange.specs.Kept.{ArePointsAt, HasNoChange, IsWellBook, spot_of};
+ghost use Rattle.ojp_exchange.specs.Places.{IsPairAt, IsSpotAt, NoPairAt};
 ghost use Rattle.ojp_exchange.specs.Joins.{AreWellLists, IsJoined, IsRefused};
 
 use crate::collected::{copies_at, regions_of, sorted_codes, sorted_points};
 use crate::joins::{first_dispute, first_twice, has_code, stops_in};
-use crate::places::{change_from, count_before, count_through};
+use crate::places::{change_from, count_before, count_through, place_of};
 use crate::refusals::BookRefused;
 use crate::region_points::RegionPoints;
+use crate::spots::Spot;
 use ojp_values::{Code, List, NoMemory, Point, StopRef};
 use std::alloc::Global;
 use std::marker::Model;
@@ -115,11 +117,66 @@ impl Book {
         copies_at(alloc, self.points.as_slice(), place)
     }
 
+    /// The number of places: a place is the number of an exchange point of a region among those of
+    /// all regions, by rising stop and region.
+    pub fn places(&self) -> usize
+        ensures { result ≡ length self.now.spots }
+    {
+        self.points.len()
+    }
+
+    /// The exchange point of a region at the place.
+    pub fn spot(&self, place: usize) -> Spot
+        requires { place < length self.now.spots }
+        ensures { IsSpotAt self.now place result }
+    {
+        spot_of(&self.points[place])
+    }
+
+    /// The place of the region's exchange point, if it declares the stop.
+    pub fn place_of(&self, stop: StopRef, region: Code) -> Option<usize>
+        ensures { MatchOption result (NoPairAt self.now stop region) (λ place. IsPairAt self.now place stop region) }
+    {
+        place_of(self.points.as_slice(), &stop, &region)
+    }
+
+    /// Whether the stop is the region's own, or the region declares it.
+    pub fn serves(&self, region: Code, stop: StopRef) -> bool
+        ensures { result ≡ serves self.now region stop }
+    {
+        if is_home(region, stop.region()) {
+            return true;
+        }
+        self.place_of(stop, region).is_some()
+    }
+
     /// The book is well: its lists rise, it is within its limits and agreed, its spots are exchange
     /// points of its regions, and each link is declared by a region that has its spot there.
     pub fn is_well(&self)
         ensures { IsWellBook self.now }
     {
         let _ = &self.regions;
+    }
+}
+
+// The exchange point as the book lists it.
+fn spot_of(point: &Point) -> Spot
+    ensures { result ≡ spot_of point.now }
+{
+    Spot {
+        stop: point.stop,
+        region: point.region,
+        change: point.change,
+    }
+}
+
+// Whether the region is that of an own stop.
+#[tactic(auto, unfolding(ojp_values::specs::Texts::same))]
+fn is_home(region: Code, code: Option<Code>) -> bool
+    ensures { result ≡ is_home region code }
+{
+    match code {
+        None => false,
+        Some(code) => region == code,
     }
 }

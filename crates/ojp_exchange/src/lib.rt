@@ -8,8 +8,10 @@ mod places;
 pub mod points;
 pub mod refusals;
 pub mod region_points;
+pub mod spots;
 
 pub use book::Book;
 pub use points::points_of;
 pub use refusals::BookRefused;
 pub use region_points::RegionPoints;
+pub use spots::{Edge, Link, Pair, Spot};

@@ -4,7 +4,7 @@ ghost use Rattle.std.specs.Prelude.{◌≡◌, ◌≢◌, ◌<◌, ◌≤◌, �
 ghost use Rattle.ojp_values.specs.Lists.{IsRising};
 ghost use Rattle.ojp_values.specs.Texts.{same, text_lt};
 ghost use Rattle.ojp_exchange.specs.Kept.{entry_lt, HasNoPoint, IsPointAt, Says, SaysNothing};
-ghost use Rattle.ojp_exchange.specs.Places.{AreParted, HasNeighbour, HasNoNeighbour, IsStretch};
+ghost use Rattle.ojp_exchange.specs.Points.{AreParted, HasNeighbour, HasNoNeighbour, IsStretch};
 
 use ojp_values::{Code, Neighbour, Point, StopRef};
 
@@ -60,8 +60,8 @@ fn has_code(neighbour: &Neighbour, code: &Code) -> bool
     neighbour.code == *code
 }
 
-// The time that is declared for the code.
-fn change_among(neighbours: &[Neighbour], code: &Code) -> Option<u32>
+/// The time that is declared for the code.
+pub fn change_among(neighbours: &[Neighbour], code: &Code) -> Option<u32>
     ensures { MatchOption result (HasNoNeighbour neighbours.now code.now) (HasNeighbour neighbours.now code.now) }
 {
     'neighbours: for neighbour in neighbours {

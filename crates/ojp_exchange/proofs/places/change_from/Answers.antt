@@ -4,7 +4,7 @@ use Rattle.std.proofs.lemmas.Option.{slice_get_read, slice_get_within}
 use Rattle.ojp_values.specs.declared.trips.Neighbour.{Neighbour}
 use Rattle.ojp_values.specs.declared.trips.Point.{Point}
 use Rattle.ojp_timetable.proofs.ReadFacts.{read_once}
-use Rattle.ojp_exchange.specs.Places.{HasNeighbour, HasNoNeighbour}
+use Rattle.ojp_exchange.specs.Points.{HasNeighbour, HasNoNeighbour}
 use Rattle.ojp_exchange.proofs.PlaceFacts.{said_at, says_none}
 use Rattle.ojp_exchange.proofs.places.change_from.Goals as goal
 

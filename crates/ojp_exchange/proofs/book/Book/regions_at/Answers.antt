@@ -3,7 +3,7 @@ use Rattle.ojp_values.specs.Texts.{Text}
 use Rattle.ojp_values.specs.declared.trips.Point.{Point}
 use Rattle.ojp_exchange.specs.Book.{Book}
 use Rattle.ojp_exchange.specs.Kept.{regions_of}
-use Rattle.ojp_exchange.specs.Places.{IsStretch}
+use Rattle.ojp_exchange.specs.Points.{IsStretch}
 use Rattle.ojp_exchange.proofs.StretchFacts.{stretch_is}
 use Rattle.ojp_exchange.proofs.book.Book.regions_at.Goals as goal
 
