@@ -2,7 +2,12 @@
 #![tactic(auto)]
 
 mod expect;
+mod fitting;
 mod links;
 
 pub use expect::Expect;
+pub use fitting::fits;
 pub use links::{AskRefused, Links, More, PacedLinks, Runtime, Sub, WaitLinks};
+
+#[cfg(test)]
+mod tests;

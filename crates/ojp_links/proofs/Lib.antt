@@ -1,0 +1,3 @@
+pub mod RisingFacts
+pub mod LegFacts
+pub mod ResultFacts
