@@ -10,3 +10,6 @@ pub mod JoinFacts
 pub mod StretchFacts
 pub mod WellBook
 pub mod SpotFacts
+pub mod TableFacts
+pub mod ChangeFacts
+pub mod WayFacts

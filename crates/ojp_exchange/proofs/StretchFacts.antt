@@ -1,7 +1,7 @@
 -- The points at a stop stand together.
 use Rattle.std.proofs.Common.{◌≡◌, ℕ, zero, suc, ◌+◌, ◌-◌, ◌<◌, ◌≤◌, ◌||◌, ◌&&◌, ◌⊎◌, Bool, true, false, cond, List, [], ◌∷◌, Some, length, map, take, drop, refl, sym, ◌∙◌, ap, subst, arith, slice_get, slice_range, inl, inr, true≢false}
 use Rattle.std.specs.List.{filter}
-use Rattle.std.proofs.lemmas.Bool.{cases_Bool}
+use Rattle.std.proofs.lemmas.Bool.{cases_Bool, cases_lt}
 use Rattle.std.proofs.lemmas.Option.{slice_get_within}
 use Rattle.std.proofs.Math.Nat.{eq-or-lt_of_le}
 use Rattle.ojp_values.specs.Lists.{IsRising}
@@ -119,6 +119,22 @@ stretch_end points stop from i part order e inside = record {
   inside = inside;
   behind = λ k x a l. absurd (omega (arith, l, e, slice_get_within points k x a));
 }
+
+-- the point behind one of the stretch is of it too, if the stretch goes on
+pub stretch_next : (points : List Point) (place from to : ℕ) (here : Point) → slice_get points place ≡ Some here → IsStretch points here.stop from to
+    → (place + 1 ≤ to) × ((next : Point) → slice_get points (place + 1) ≡ Some next → place + 1 < to → IsStretch points next.stop from to)
+stretch_next points place from to here at stretch = (
+  inside,
+  (λ next read less.
+      let is = same_is here.stop next.stop (stretch.inside (place + 1) next read (omega (arith, low)) less) in
+      subst (λ (stop : Text). IsStretch points stop from to) is stretch),
+)
+  where
+    low : from ≤ place
+    low = elim (cases_lt place from) [ inl l ↦ absurd (true≢false (sym (is_same here.stop here.stop refl) ∙ stretch.before place here at l)) | inr g ↦ g ]
+
+    inside : place + 1 ≤ to
+    inside = elim (cases_lt place to) [ inl l ↦ omega (arith, l) | inr g ↦ absurd (true≢false (sym (is_same here.stop here.stop refl) ∙ stretch.behind place here at g)) ]
 
 -- ---- the regions of the stretch
 

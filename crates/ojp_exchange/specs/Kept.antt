@@ -91,12 +91,6 @@ abbrev pub points_at : Option Text → List Point → List Point
 points_at None points = points
 points_at (Some stop) points = filter (λ (point : Point). same stop point.stop) points
 
--- what a book keeps beside what it lists
-pub record IsWhole (codes : List Text) (points : List Point) (regions : List Text) : Type 0 where
-  pub kept : AreKept codes points
-  pub sound : IsSound (book_of codes points)
-  pub regions_are : regions ≡ map (λ (point : Point). point.region) points
-
 -- the points are those of the book, by stop and region
 pub record ArePointsOf (book : Book) (points : List Point) : Type 0 where
   pub kept : AreKept book.codes points

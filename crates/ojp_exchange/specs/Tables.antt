@@ -1,5 +1,5 @@
 -- The tables of a book: a list in parts, one for each place or each region, with the number at which each part begins.
-use Rattle.std.specs.Prelude.{◌≡◌, ℕ, ◌+◌, ◌<◌, ◌≤◌, ◌&&◌, ◌↔◌, ◌++◌, Bool, false, nat_lt, List, length, slice_index, slice_range, slice_get, Some}
+use Rattle.std.specs.Prelude.{◌≡◌, ℕ, ◌+◌, ◌<◌, ◌≤◌, ◌&&◌, ◌↔◌, ◌++◌, Bool, false, nat_lt, List, map, length, slice_index, slice_range, slice_get, Some}
 use Rattle.std.specs.List.{filter, range_with_len}
 use Rattle.std.specs.Option.{option_map_or}
 use Rattle.ojp_values.specs.Lists.{Among, Each, IsRising}
@@ -8,7 +8,7 @@ use Rattle.ojp_values.specs.declared.trips.Neighbour.{Neighbour}
 use Rattle.ojp_values.specs.declared.trips.Point.{Point}
 use Rattle.ojp_timetable.specs.Points.{IsPointOf}
 use Rattle.ojp_exchange.specs.declared.spots.Edge.{Edge}
-use Rattle.ojp_exchange.specs.Kept.{entry_lt}
+use Rattle.ojp_exchange.specs.Kept.{AreKept, IsSound, book_of, entry_lt}
 use Rattle.ojp_exchange.specs.Places.{edge_to}
 use Rattle.ojp_exchange.specs.Points.{IsStretch}
 
@@ -79,3 +79,11 @@ AreWaysIn codes points firsts number ways = (code : Text) → slice_get codes nu
 -- a part for each region: its ways
 abbrev pub IsWayTable : List Text → List Point → List ℕ → List ℕ → List ℕ → Type 0
 IsWayTable codes points edge_firsts ways firsts = AreParts (AreWaysIn codes points edge_firsts) ways firsts (length codes)
+
+-- what a book keeps, and what it has beside it to find places, edges and ways at once
+pub record IsWhole (codes : List Text) (points : List Point) (regions : List Text) (edges : List Edge) (edge_firsts ways way_firsts : List ℕ) : Type 0 where
+  pub kept : AreKept codes points
+  pub sound : IsSound (book_of codes points)
+  pub regions_are : regions ≡ map (λ (point : Point). point.region) points
+  pub edges_are : IsEdgeTable points edges edge_firsts
+  pub ways_are : IsWayTable codes points edge_firsts ways way_firsts

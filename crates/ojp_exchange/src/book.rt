@@ -2,16 +2,17 @@
 
 ghost use Rattle.std.specs.Prelude.{◌≡◌, ◌<◌, length, IfOk, IfErr, MatchOption};
 ghost use Rattle.ojp_exchange.specs.Book.{HasChange, is_home, serves};
-ghost use Rattle.ojp_exchange.specs.Kept.{ArePointsAt, HasNoChange, IsWellBook, spot_of};
-ghost use Rattle.ojp_exchange.specs.Places.{IsPairAt, IsSpotAt, NoPairAt};
+ghost use Rattle.ojp_exchange.specs.Kept.{AreKept, ArePointsAt, book_of, HasNoChange, IsSound, IsWellBook, spot_of};
+ghost use Rattle.ojp_exchange.specs.Places.{AreEdges, AreWays, IsCodeAt, IsNoCode, IsPairAt, IsSpotAt, NoPairAt};
 ghost use Rattle.ojp_exchange.specs.Joins.{AreWellLists, IsJoined, IsRefused};
 
 use crate::collected::{copies_at, regions_of, sorted_codes, sorted_points};
 use crate::joins::{first_dispute, first_twice, has_code, stops_in};
-use crate::places::{change_from, count_before, count_through, place_of};
+use crate::places::{change_from, count_before, count_through, number_of, place_of};
 use crate::refusals::BookRefused;
 use crate::region_points::RegionPoints;
-use crate::spots::Spot;
+use crate::spots::{Edge, Spot};
+use crate::tables::{EdgeTable, WayTable, edges_of, ways_of};
 use ojp_values::{Code, List, NoMemory, Point, StopRef};
 use std::alloc::Global;
 use std::marker::Model;
@@ -28,17 +29,20 @@ pub struct Book {
     codes: Vec<Code>,
     points: Vec<Point>,
     regions: Vec<Code>,
+    edges: EdgeTable,
+    ways: WayTable,
 }
 
 impl Model for Book {
     ghost use Rattle.ojp_exchange.specs.Book.{Book as Flat};
-    ghost use Rattle.ojp_exchange.specs.Kept.{book_of, IsWhole};
+    ghost use Rattle.ojp_exchange.specs.Kept.{book_of};
+    ghost use Rattle.ojp_exchange.specs.Tables.{IsWhole};
 
     ghost Value = { Flat };
 
     ghost view = { λ b. book_of b.codes.items b.points.items };
 
-    ghost invariant = { λ b. IsWhole b.codes.items b.points.items b.regions.items };
+    ghost invariant = { λ b. IsWhole b.codes.items b.points.items b.regions.items b.edges.edges.items b.edges.firsts.items b.ways.ways.items b.ways.firsts.items };
 }
 
 impl Book {
@@ -72,13 +76,28 @@ impl Book {
                 right: found.right,
             });
         }
-        let Ok(regions) = regions_of(alloc, points.as_slice()) else {
+        let Ok(book) = Book::with_tables(alloc, codes, points) else {
             return Err(BookRefused::NoMemory);
         };
+        Ok(book)
+    }
+
+    // The book of the regions with the points, with its tables.
+    fn with_tables(alloc: Global, codes: Vec<Code>, points: Vec<Point>) -> Result<Book, NoMemory>
+        requires kept { AreKept codes.items points.items }
+        requires sound { IsSound (book_of codes.items points.items) }
+        ensures { IfOk result (λ book. book ≡ book_of codes.items points.items) }
+    {
+        let regions = regions_of(alloc, points.as_slice())?;
+        let edges = edges_of(alloc, points.as_slice())?;
+        let firsts = edges.firsts.as_slice();
+        let ways = ways_of(alloc, codes.as_slice(), points.as_slice(), firsts)?;
         Ok(Book {
             codes,
             points,
             regions,
+            edges,
+            ways,
         })
     }
 
@@ -138,6 +157,33 @@ impl Book {
         ensures { MatchOption result (NoPairAt self.now stop region) (λ place. IsPairAt self.now place stop region) }
     {
         place_of(self.points.as_slice(), &stop, &region)
+    }
+
+    /// Where one who arrived at the place may change to, and in what time.
+    pub fn edges(&self, place: usize) -> &[Edge]
+        requires { place < length self.now.spots }
+        ensures { AreEdges self.now place result.now }
+    {
+        &self.edges.edges[self.edges.firsts[place]..self.edges.firsts[place + 1]]
+    }
+
+    /// The places of the region that lead on to another region, rising.
+    pub fn ways(&self, region: Code) -> &[usize]
+        ensures { AreWays self.now region result.now }
+    {
+        match self.number_of(region) {
+            Some(number) => {
+                &self.ways.ways[self.ways.firsts[number]..self.ways.firsts[number + 1]]
+            }
+            None => &[],
+        }
+    }
+
+    /// The number of the region among those of the book, if it is one.
+    pub fn number_of(&self, region: Code) -> Option<usize>
+        ensures { MatchOption result (IsNoCode self.now.codes region) (λ number. IsCodeAt self.now.codes number region) }
+    {
+        number_of(self.codes.as_slice(), &region)
     }
 
     /// Whether the stop is the region's own, or the region declares it.

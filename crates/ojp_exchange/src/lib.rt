@@ -9,6 +9,7 @@ pub mod points;
 pub mod refusals;
 pub mod region_points;
 pub mod spots;
+mod tables;
 
 pub use book::Book;
 pub use points::points_of;

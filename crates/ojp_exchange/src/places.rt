@@ -4,6 +4,7 @@ ghost use Rattle.std.specs.Prelude.{◌≡◌, ◌≢◌, ◌<◌, ◌≤◌, �
 ghost use Rattle.ojp_values.specs.Lists.{IsRising};
 ghost use Rattle.ojp_values.specs.Texts.{same, text_lt};
 ghost use Rattle.ojp_exchange.specs.Kept.{entry_lt, HasNoPoint, IsPointAt, Says, SaysNothing};
+ghost use Rattle.ojp_exchange.specs.Places.{IsCodeAt, IsNoCode};
 ghost use Rattle.ojp_exchange.specs.Points.{AreParted, HasNeighbour, HasNoNeighbour, IsStretch};
 
 use ojp_values::{Code, Neighbour, Point, StopRef};
@@ -129,4 +130,24 @@ pub fn count_through(points: &[Point], stop: &StopRef, from: usize) -> usize
         }
     }
     points.len()
+}
+
+// Whether the codes are the same.
+fn is_code(code: &Code, other: &Code) -> bool
+    ensures { MatchBool result (code.now ≡ other.now) (code.now ≢ other.now) }
+{
+    *code == *other
+}
+
+/// The number of the code among these.
+pub fn number_of(codes: &[Code], code: &Code) -> Option<usize>
+    ensures { MatchOption result (IsNoCode codes.now code.now) (λ number. IsCodeAt codes.now number code.now) }
+{
+    'codes: for number in 0..codes.len() {
+        let other = &codes[number];
+        if is_code(other, code) {
+            return Some(number);
+        }
+    }
+    None
 }

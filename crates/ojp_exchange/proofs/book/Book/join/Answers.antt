@@ -3,7 +3,7 @@ use Rattle.ojp_values.specs.Lists.{Among, IsRising}
 use Rattle.ojp_values.specs.Texts.{Text}
 use Rattle.ojp_values.specs.declared.trips.Point.{Point}
 use Rattle.ojp_exchange.specs.Disputes.{AllReturn, IsFirstPoint}
-use Rattle.ojp_exchange.specs.Joins.{first_twice}
+use Rattle.ojp_exchange.specs.Joins.{IsJoined, first_twice}
 use Rattle.ojp_exchange.specs.Kept.{book_of, entry_lt, spot_of, stops_of}
 use Rattle.ojp_exchange.proofs.MadeFacts.{is_book, own_codes}
 use Rattle.ojp_exchange.proofs.JoinFacts.{agreed, as_many, codes_rise, is_dispute, least_twice, ready}
@@ -65,24 +65,25 @@ returns-in-Some-first_dispute-clause-refused c =
       first = is_dispute codes points found.point found.left found.right kept first;
     }
 
-pub invariant_of-result : goal.invariant_of-result
-invariant_of-result c =
+pub with_tables-requires-clause-kept : goal.with_tables-requires-clause-kept
+with_tables-requires-clause-kept c =
     let lists = c.args.lists.now in
     let codes = c.in-Ok.codes.items in
     let points = c.in-Ok-sorted_points.points.items in
     let none : first_twice codes ≡ None = ap first_twice (sym c.as_slice.ensures.value) ∙ (sym c.first_twice.ensures ∙ c.in_default-first_twice.is) in
-    let kept = ready lists codes points c.requires c.in-Ok.ensures.same c.in-Ok.ensures.sorted none c.in-Ok-sorted_points.ensures.same c.in-Ok-sorted_points.ensures.sorted in
+    ready lists codes points c.requires c.in-Ok.ensures.same c.in-Ok.ensures.sorted none c.in-Ok-sorted_points.ensures.same c.in-Ok-sorted_points.ensures.sorted
+
+pub with_tables-requires-clause-sound : goal.with_tables-requires-clause-sound
+with_tables-requires-clause-sound c =
+    let codes = c.in-Ok.codes.items in
+    let points = c.in-Ok-sorted_points.points.items in
     let regions_few : length codes ≤ 32 = subst (λ (cs : List Text). length cs ≤ 32) c.as_slice-2.ensures.value (omega (arith, c.if-as_slice-gt-REGIONS.false)) in
     let stops_few : length (stops_of (map spot_of points)) ≤ 2000 =
     subst (λ (ps : List Point). length (stops_of (map spot_of ps)) ≤ 2000) c.as_slice-3.ensures.value (omega (arith, c.if-stops_in-gt-POINTS.false, c.stops_in.ensures)) in
     let all : (point : Point) → Among point points → AllReturn codes points point =
     subst (λ (ps : List Point). (point : Point) → Among point ps → AllReturn codes ps point) c.as_slice-5.ensures.value
     (subst (λ (cs : List Text). (point : Point) → Among point c.as_slice-5.result.now → AllReturn cs c.as_slice-5.result.now point) c.as_slice-4.ensures.value c.in_default-first_dispute.ensures) in
-    record {
-      kept = kept;
-      sound = record { regions_few = regions_few; stops_few = stops_few; agreed = agreed codes points all };
-      regions_are = c.in-Ok-regions_of.ensures ∙ ap (map (λ (point : Point). point.region)) c.as_slice-6.ensures.value;
-    }
+    record { regions_few = regions_few; stops_few = stops_few; agreed = agreed codes points all }
 
 pub returns-clause-joined : goal.returns-clause-joined
 returns-clause-joined c =
@@ -97,8 +98,8 @@ returns-clause-joined c =
     let all : (point : Point) → Among point points → AllReturn codes points point =
     subst (λ (ps : List Point). (point : Point) → Among point ps → AllReturn codes ps point) c.as_slice-5.ensures.value
     (subst (λ (cs : List Text). (point : Point) → Among point c.as_slice-5.result.now → AllReturn cs c.as_slice-5.result.now point) c.as_slice-4.ensures.value c.in_default-first_dispute.ensures) in
-    record {
+    subst (IsJoined lists) (sym c.in-Ok-with_tables.ensures) (record {
       own = own_codes lists codes c.in-Ok.ensures.same kept.codes_rise;
       book_of = is_book lists codes points c.requires c.in-Ok.ensures.same c.in-Ok-sorted_points.ensures.same kept;
       sound = record { regions_few = regions_few; stops_few = stops_few; agreed = agreed codes points all };
-    }
+    })
