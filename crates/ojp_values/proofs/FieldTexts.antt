@@ -1,6 +1,6 @@
 -- The text of each kind of field is short and has no `<`, and it spells one value.
-use Rattle.std.proofs.Common.{◌≡◌, ◌≢◌, ℕ, suc, ◌+◌, ◌*◌, ◌/◌, ◌%◌, ◌<◌, ◌≤◌, ◌^◌, ◌==◌, ◌&&◌, ◌||◌, Bool, true, false, cond, true≢false, not, IsTrue, List, [], ◌∷◌, ◌++◌, length, take, drop, All, codes, nat_le, refl, sym, ap, ◌∙◌, subst, arith, lit≤, length-append, take-append-drop}
-use Rattle.std.specs.List.{list_all, position_or_len, flat_map}
+use Rattle.std.proofs.Common.{◌≡◌, ◌≢◌, ℕ, ◌+◌, ◌*◌, ◌/◌, ◌%◌, ◌<◌, ◌≤◌, ◌^◌, ◌==◌, ◌&&◌, ◌||◌, Bool, true, false, cond, true≢false, not, IsTrue, List, [], ◌∷◌, ◌++◌, length, take, drop, All, codes, refl, sym, ap, ◌∙◌, subst, arith, lit≤, length-append, take-append-drop}
+use Rattle.std.specs.List.{list_all, position_or_len}
 use Rattle.std.specs.Fmt.{decimal}
 use Rattle.std.specs.Char.{digit_value}
 use Rattle.std.specs.Str.Parse.{AllDigits}
@@ -10,11 +10,11 @@ use Rattle.std.proofs.lemmas.Slice.Eq.{bytes_eq-Decides}
 use Rattle.std.proofs.lemmas.List.Elements.{All-cons, All-append}
 use Rattle.std.proofs.lemmas.List.Sums.{AllPass-from_list_all}
 use Rattle.std.proofs.lemmas.Fmt.{decimal_is_IsNumeral, decimal_nonempty, decimal_injective, length-decimal-le}
-use Rattle.ojp_values.specs.Texts.{is_code, is_label, is_stop_ref, is_name, is_code_byte, is_local_byte, is_colon, is_x, is_tail, is_between, code_part, escaped, escaped_byte}
+use Rattle.ojp_values.specs.Texts.{is_code, is_label, is_stop_ref, is_name, is_code_byte, is_local_byte, is_colon, is_x, is_tail, is_between, escaped, escaped_byte}
 use Rattle.ojp_values.specs.declared.dates.CalendarDate.{CalendarDate}
 use Rattle.ojp_values.specs.FieldTexts.{IsFieldText}
 use Rattle.ojp_values.specs.Numbers.{duration_text}
-use Rattle.ojp_values.specs.Dates.{IsWritable, IsDate, two, date_text, date_of, day_text, clock_text, moment_text}
+use Rattle.ojp_values.specs.Dates.{IsWritable, two, date_text, date_of, day_text, clock_text, moment_text}
 use Rattle.ojp_values.proofs.Escapes.{and_true_left, and_true_right, name_bounds, escaped_byte_some}
 use Rattle.ojp_values.proofs.Calendar.{two_injective, days_have_dates, date_is_writable, day_text_injective}
 

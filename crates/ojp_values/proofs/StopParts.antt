@@ -1,10 +1,10 @@
 -- A reference to a stop is a code or `x`, a colon and a local part.
-use Rattle.std.proofs.Common.{◌≡◌, ℕ, suc, ◌+◌, ◌-◌, ◌≤◌, ◌==◌, ◌&&◌, ◌||◌, Bool, true, false, not, cond, true≢false, IsTrue, ◌⊎◌, inl, inr, List, [], ◌∷◌, ◌++◌, length, take, drop, nat_le, bytes_eq, refl, sym, ap, ◌∙◌, subst, arith, take-append-drop}
+use Rattle.std.proofs.Common.{◌≡◌, ℕ, ◌≤◌, ◌||◌, Bool, true, false, not, true≢false, IsTrue, ◌⊎◌, inl, inr, List, [], ◌∷◌, ◌++◌, length, take, drop, refl, sym, ap, ◌∙◌, subst, arith, take-append-drop}
 use Rattle.std.specs.List.{list_all, position_or_len}
 use Rattle.std.proofs.lemmas.Bool.{leb-true, eqb-true, or_left, or_right, and_from, le-leb}
 use Rattle.std.proofs.lemmas.Slice.Eq.{bytes_eq-Decides}
 use Rattle.std.proofs.Math.Seq.{take-append_seam, drop-append_seam}
-use Rattle.ojp_values.specs.Texts.{is_code, is_label, is_stop_ref, is_code_byte, is_local_byte, is_colon, is_x, is_tail, is_between, code_part}
+use Rattle.ojp_values.specs.Texts.{is_code, is_label, is_stop_ref, is_code_byte, is_colon, is_x, is_tail, is_between}
 use Rattle.ojp_values.specs.Stops.{HasParts, StopsHaveParts}
 use Rattle.ojp_values.proofs.Escapes.{and_true_left, and_true_right}
 

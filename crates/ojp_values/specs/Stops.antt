@@ -1,5 +1,5 @@
 -- What a reference to a stop is made of.
-use Rattle.std.specs.Prelude.{◌≡◌, ◌⊎◌, ◌↔◌, List, [], ◌∷◌, ◌++◌, ℕ, IsTrue}
+use Rattle.std.specs.Prelude.{◌≡◌, ◌⊎◌, ◌↔◌, [], ◌∷◌, ◌++◌, IsTrue}
 use Rattle.ojp_values.specs.Texts.{Text, is_code, is_label, is_stop_ref}
 
 -- the text is a code or `x`, a colon and a local part
