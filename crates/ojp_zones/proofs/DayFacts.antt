@@ -6,6 +6,8 @@ use Rattle.jiff_core.proofs.MarchLemmas.{day_count-early}
 use Rattle.jiff_core.proofs.SignedLemmas.{signed_arith}
 use Rattle.jiff_core.specs.Calendar.{IsCivilDate, day_count, days_from_civil}
 use Rattle.jiff_core.proofs.CalendarLemmas.{day_count-later_year, day_count-day_of_year, day_count-lt_year, day_count-epoch, day_count-next_year, days_in_month_bounds, days_in_year_bounds, days_from_civil-day_count}
+use Rattle.ojp_values.specs.Dates.{date_of}
+use Rattle.ojp_values.proofs.Calendar.{days_have_dates}
 use Rattle.ojp_zones.specs.Days.{day_number}
 
 pub year_from : (y : ℕ) → 1970 ≤ y → 4_371_953 ≤ day_count (pos y) 1 1
@@ -48,3 +50,22 @@ count_from_min y m d n h = omega (arith, signed_arith, h, days_from_civil-day_co
 
 pub count_is : (y m n : ℕ) (dy : ℤ) (dm dd : ℕ) → dy ≡ pos y → dm ≡ m → dd ≡ 1 → days_from_civil dy dm dd +ℤ pos 4_371_587 ≡ pos n → n + 366 ≡ day_count (pos y) m 1
 count_is y m n dy dm dd ey em ed h = count_from_min dy dm dd n h ∙ cc
+
+-- a year begins no later than a later one
+pub years_rise : (y later : ℕ) → y ≤ later → day_number y 1 1 ≤ day_number later 1 1
+unfolding day_number
+years_rise y later h =
+    elim (eq-or-lt_of_le h) [
+      | inl e ↦ omega (arith, ap (λ (n : ℕ). day_count (pos n) 1 1) e)
+      | inr l ↦ omega (arith, day_count-later_year (pos y) (pos later) (omega (arith, ints)) (omega (arith, ints)))
+    ]
+
+-- the day lies in the year of its date
+pub in_its_year : (day : ℕ) → day ≤ 84_005 → (day_number (date_of day).year 1 1 ≤ day) × (day < day_number ((date_of day).year + 1) 1 1)
+unfolding day_number
+in_its_year day h =
+    let found = days_have_dates day h in
+    let date = date_of day in
+    let low = day_count-day_of_year (pos date.year) date.month date.day found.0.civil.2.0 in
+    let next = day_count-lt_year (pos date.year) date.month date.day (pos (date.year + 1)) 1 1 found.0.civil (omega arith) (omega (arith, ints)) in
+    (omega (arith, found.1, low, day_count-epoch), omega (arith, found.1, next, day_count-epoch))

@@ -1,74 +1,23 @@
--- Adding the noon of the next day.
-use Rattle.std.proofs.Common.{◌≡◌, ℕ, ◌+◌, ◌-◌, ◌≤◌, ◌<◌, inl, inr, List, [], ◌∷◌, ◌++◌, length, get_or, arith, subst, sym, ap, ◌∙◌, length-append, pos, ◌*◌, ◌-ℤ◌}
+-- The noons of a zone by its years.
+use Rattle.std.proofs.Common.{◌≡◌, ℕ, zero, suc, ◌+◌, ◌-◌, ◌≤◌, ◌<◌, inl, inr, List, [], ◌∷◌, ◌++◌, length, get_or, refl, arith, subst, sym, ap, ◌∙◌, length-append, pos, ◌*◌, ◌-ℤ◌, true, false}
 use Rattle.std.proofs.Math.Nat.{eq-or-lt_of_le}
 use Rattle.std.proofs.Math.ListN.{get_or-append}
 use Rattle.std.proofs.Math.Seq.{get_or-append_seam}
-use Rattle.ojp_zones.specs.Noons.{AreNear, AreNoons, IsNoon, IsOffset, IsSummer, IsYear, IsZone, change_day, east_by, east_on, is_second}
-use Rattle.ojp_zones.specs.declared.zone.Summer.{Summer}
-use Rattle.std.specs.Prelude.{Option, Some, None, IfSome, cond, Bool, true, false, ℤ}
+use Rattle.std.proofs.Math.Dec.{leb}
+use Rattle.std.proofs.lemmas.Bool.{leb-true, leb-false}
+use Rattle.std.proofs.lemmas.Int.{ints}
+use Rattle.std.specs.Prelude.{Option, Some, None, IfSome, cond, Bool, ℤ, negsuc, unsigned_abs, ◌≤ℤ◌, ◌⊎◌}
+use Rattle.std.specs.List.Sorted.{IsNonDecreasingBy, IsPartitionPoint}
 use Rattle.jiff_core.proofs.SignedLemmas.{signed_arith}
+use Rattle.ojp_values.specs.Dates.{date_of}
 use Rattle.ojp_zones.specs.Days.{day_number}
+use Rattle.ojp_zones.specs.Noons.{AreNear, AreNoons, AreYears, AreAllYears, IsNoon, IsOffset, IsSummer, IsYear, IsZone, HoldsDay, change_day, east_by, east_on, is_second, noon_of, noons_from, noons_of}
 use Rattle.ojp_zones.specs.declared.year.Year.{Year}
-use Rattle.ojp_zones.proofs.DayFacts.{day_number-end, day_number-epoch, day_number-next_year}
+use Rattle.ojp_zones.specs.declared.zone.Summer.{Summer}
 use Rattle.ojp_zones.specs.declared.zone.Zone.{Zone}
+use Rattle.ojp_zones.proofs.DayFacts.{day_number-end, day_number-epoch, in_its_year, years_rise}
 
-same_noon : (zone : Zone) (day : ℕ) (m n : ℕ) → m ≡ n → IsNoon zone day m → IsNoon zone day n
-same_noon zone day m n e h = subst (IsNoon zone day) e h
-
-pub AreNoons-push : (zone : Zone) (noons : List ℕ) (moment : ℕ) → AreNoons zone noons → IsNoon zone (length noons + 2) moment → AreNoons zone (noons ++ moment ∷ [])
-AreNoons-push zone noons moment all last = record {
-  noon = λ day low high.
-      let n : length (noons ++ moment ∷ []) ≡ length noons + 1 = length-append noons (moment ∷ []) in
-      let le : day - 2 ≤ length noons = omega (arith, n) in
-      elim (eq-or-lt_of_le le) [
-        | inl e ↦
-            let d : length noons + 2 ≡ day = omega arith in
-            subst (λ (k : ℕ). IsNoon zone k (get_or (noons ++ moment ∷ []) (day - 2) 0)) d
-            (same_noon zone (length noons + 2) moment _ (sym (ap (λ (k : ℕ). get_or (noons ++ moment ∷ []) k 0) e ∙ get_or-append_seam noons moment [] 0)) last)
-        | inr l ↦ same_noon zone day _ _ (sym (get_or-append noons (moment ∷ []) 0 (day - 2) l)) (all.noon day low (omega arith))
-      ];
-}
-
-pub AreNoons-none : (zone : Zone) → AreNoons zone []
-AreNoons-none zone = record { noon = λ day low high. absurd (omega arith) }
-
--- the year holds the day
-pub record Holds (zone : Zone) (year : Year) (day : ℕ) : Type 0 where
-  pub is_year : IsYear zone year
-  pub begun : day_number year.number 1 1 ≤ day
-  pub unended : day < year.next
-
--- a year that a day has come to the end of is not the last
-pub not_last : (zone : Zone) (year : Year) (day : ℕ) → IsYear zone year → day ≡ year.next → day < 84_003 → year.number + 1 < 2200
-not_last zone year day is e low =
-    let to : year.number + 1 ≤ 2200 = omega (arith, is.to) in
-    elim (eq-or-lt_of_le to) [
-      | inl last ↦ absurd (omega (arith, day_number-end, is.next, ap (λ (n : ℕ). day_number n 1 1) last))
-      | inr l ↦ l
-    ]
-
--- the year after holds the day that the year before has come to
-pub next_holds : (zone : Zone) (year next : Year) (day : ℕ) → IsYear zone year → IsYear zone next → next.number ≡ year.number + 1 → day ≡ year.next → Holds zone next day
-next_holds zone year next day is after number e = record {
-  is_year = after;
-  begun = omega (arith, is.next, ap (λ (n : ℕ). day_number n 1 1) number);
-  unended = omega (arith, is.next, after.next, ap (λ (n : ℕ). day_number n 1 1) number, day_number-next_year next.number after.from);
-}
-
-pub noon_held : (zone : Zone) (year : Year) (day moment : ℕ) → Holds zone year day → pos moment ≡ pos (86400 * day + 43200) -ℤ east_on zone year.number day → IsNoon zone day moment
-noon_held zone year day moment h e = record { year = year.number; begun = h.begun; unended = omega (arith, h.unended, h.is_year.next); is = e }
-
--- the first year holds the first day
-pub first_holds : (zone : Zone) (year : Year) → IsYear zone year → year.number ≡ 1970 → Holds zone year 2
-first_holds zone year is e = record {
-  is_year = is;
-  begun = omega (arith, day_number-epoch, ap (λ (n : ℕ). day_number n 1 1) e);
-  unended = omega (arith, day_number-epoch, ap (λ (n : ℕ). day_number n 1 1) e, is.next, day_number-next_year year.number is.from);
-}
-
--- a year that a day has not come to the end of holds it
-pub still_holds : (zone : Zone) (year : Year) (day : ℕ) → IsYear zone year → day_number year.number 1 1 ≤ day → day ≤ year.next → (day ≡ year.next → ⊥) → Holds zone year day
-still_holds zone year day is from to not = record { is_year = is; begun = from; unended = omega (arith, not) }
+-- ---- near UTC
 
 between_near : (b : Bool) (x y : ℤ) → IsOffset x → IsOffset y → IsOffset (cond b x y)
 between_near true x y h k = h
@@ -81,9 +30,142 @@ by_near east (Some summer) year day h k = between_near (is_second (change_day ye
 east_near : (zone : Zone) (year day : ℕ) → IsZone zone → IsOffset (east_on zone year day)
 east_near zone year day h = by_near zone.east zone.summer year day h.0 h.1
 
+-- ---- the list of noons
+
+-- a number that is not negative
+abs_of : (z : ℤ) → pos 0 ≤ℤ z → pos (unsigned_abs z) ≡ z
+abs_of (pos n) h = refl
+abs_of (negsuc n) h = absurd (omega (arith, signed_arith, h))
+
+-- the moment of a noon is that of its day
+is_noon_of : (zone : Zone) (day : ℕ) → IsZone zone → 2 ≤ day → pos (noon_of zone day) ≡ pos (86400 * day + 43200) -ℤ east_on zone (date_of day).year day
+unfolding noon_of
+is_noon_of zone day h low =
+    let near = east_near zone (date_of day).year day h in
+    abs_of (pos (86400 * day + 43200) -ℤ east_on zone (date_of day).year day) (omega (arith, signed_arith, near, low))
+
+noon_is : (zone : Zone) (day : ℕ) → IsZone zone → 2 ≤ day → day ≤ 84_005 → IsNoon zone day (noon_of zone day)
+noon_is zone day h low high =
+    let year = in_its_year day high in
+    record { year = (date_of day).year; begun = year.0; unended = year.1; is = is_noon_of zone day h low }
+
+length-noons_from : (zone : Zone) (first days : ℕ) → length (noons_from zone first days) ≡ days
+unfolding noons_from
+length-noons_from zone first zero = refl
+length-noons_from zone first (suc days) = omega (arith, length-noons_from zone (first + 1) days)
+
+noons_from-at : (zone : Zone) (first days i : ℕ) → i < days → get_or (noons_from zone first days) i 0 ≡ noon_of zone (first + i)
+unfolding noons_from
+noons_from-at zone first zero i h = absurd (omega (arith, h))
+noons_from-at zone first (suc days) zero h = ap (noon_of zone) (omega arith)
+noons_from-at zone first (suc days) (suc i) h = noons_from-at zone (first + 1) days i (omega (arith, h)) ∙ ap (noon_of zone) (omega arith)
+
+pub length-noons_of : (zone : Zone) → length (noons_of zone) ≡ 84_001
+unfolding noons_of
+length-noons_of zone = length-noons_from zone 2 84_001
+
+noons_of-at : (zone : Zone) (day : ℕ) → 2 ≤ day → day ≤ 84_002 → get_or (noons_of zone) (day - 2) 0 ≡ noon_of zone day
+unfolding noons_of
+noons_of-at zone day low high = noons_from-at zone 2 84_001 (day - 2) (omega (arith, low, high)) ∙ ap (noon_of zone) (omega (arith, low))
+
+pub noons_are : (zone : Zone) → IsZone zone → AreNoons zone (noons_of zone)
+noons_are zone h = record {
+  noon = λ day low high.
+      let last : day ≤ 84_002 = omega (arith, high, length-noons_of zone) in
+      subst (IsNoon zone day) (sym (noons_of-at zone day low last)) (noon_is zone day h low (omega (arith, last)));
+}
+
 -- the noons of a zone in range are near those of UTC
 pub are_near : (zone : Zone) (noons : List ℕ) → IsZone zone → AreNoons zone noons → AreNear noons
 are_near zone noons h all = record {
   low = λ day from to. let n = all.noon day from to in omega (arith, signed_arith, n.is, east_near zone n.year day h);
   high = λ day from to. let n = all.noon day from to in omega (arith, signed_arith, n.is, east_near zone n.year day h);
 }
+
+-- ---- one noon
+
+no_earlier : (zone : Zone) (day m n : ℕ) (first : IsNoon zone day m) (second : IsNoon zone day n) → first.year < second.year → ⊥
+no_earlier zone day m n first second h =
+    omega (arith, first.unended, second.begun, years_rise (first.year + 1) second.year (omega (arith, h)))
+
+one_year : (zone : Zone) (day m n : ℕ) (first : IsNoon zone day m) (second : IsNoon zone day n) → first.year ≡ second.year
+one_year zone day m n first second =
+    let least : first.year ≤ second.year = not_less second.year first.year (no_earlier zone day n m second first) in
+    let most : second.year ≤ first.year = not_less first.year second.year (no_earlier zone day m n first second) in
+    omega (arith, least, most)
+  where
+    not_less : (x y : ℕ) → (x < y → ⊥) → y ≤ x
+    not_less x y h = grind (arith, h)
+
+-- a day has one noon in a zone
+pub one_noon : (zone : Zone) (day m n : ℕ) → IsNoon zone day m → IsNoon zone day n → m ≡ n
+one_noon zone day m n first second =
+    let east = ap (λ (y : ℕ). east_on zone y day) (one_year zone day m n first second) in
+    omega (arith, ints, first.is, second.is, east)
+
+-- ---- the years
+
+pub AreYears-none : (zone : Zone) → AreYears zone []
+AreYears-none zone = record { each = λ i d h. absurd (omega (arith, h)) }
+
+pub AreYears-push : (zone : Zone) (years : List Year) (year : Year) → AreYears zone years → IsYear zone year → year.number ≡ 1970 + length years → AreYears zone (years ++ year ∷ [])
+AreYears-push zone years year all is number = record {
+  each = λ i d h.
+      let n = length-append years (year ∷ []) in
+      let le : i ≤ length years = omega (arith, h, n) in
+      let P : Year → Type 0 = λ y. IsYear zone y × (y.number ≡ 1970 + i) in
+      elim (eq-or-lt_of_le le) [
+        | inl e ↦
+            let at : get_or (years ++ year ∷ []) i d ≡ year = ap (λ (k : ℕ). get_or (years ++ year ∷ []) k d) e ∙ get_or-append_seam years year [] d in
+            subst P (sym at) (is, omega (arith, number, e))
+        | inr l ↦ subst P (sym (get_or-append years (year ∷ []) d i l)) (all.each i d l)
+      ];
+}
+
+-- where a year of the zone ends
+ends : (zone : Zone) (years : List Year) → AreYears zone years → (i : ℕ) (d : Year) → i < length years → (get_or years i d).next ≡ day_number (1971 + i) 1 1
+ends zone years all i d h =
+    let it = all.each i d h in
+    it.0.next ∙ ap (λ (y : ℕ). day_number y 1 1) (omega (arith, it.1))
+
+pub years_in_order : (zone : Zone) (years : List Year) → AreYears zone years → IsNonDecreasingBy (λ (year : Year). year.next) years
+years_in_order zone years all i j d le h =
+    omega (arith, ends zone years all i d (omega (arith, le, h)), ends zone years all j d h, years_rise (1971 + i) (1971 + j) (omega (arith, le)))
+
+abbrev pub EndsBy : ℕ → Year → Bool
+EndsBy day year = leb year.next day
+
+-- the first year that ends behind the day holds it
+pub found : (zone : Zone) (years : List Year) (day i : ℕ) → AreAllYears zone years → day ≤ 84_002 → i ≤ length years
+    → IsPartitionPoint (λ y. EndsBy day y ≡ true) (λ y. EndsBy day y ≡ false) years i → HoldsDay zone years day i
+found zone years day i all high within point =
+    let inside : i < length years = some_left (eq-or-lt_of_le within) in record {
+      inside = inside;
+      is = λ d. (all.each_year.each i d inside).0;
+      begun = λ d. begun d i inside (all.each_year.each i d inside).1 point;
+      unended = λ d. omega (arith, leb-false _ _ (point.1 i d (omega arith) inside), (all.each_year.each i d inside).0.next);
+    }
+  where
+    some_left : (i ≡ length years) ⊎ (i < length years) → i < length years
+    some_left (inr l) = l
+    some_left (inl e) =
+        let d : Year = record { number = 0; next = 0; season = None } in
+        let last : 229 < length years = omega (arith, all.count) in
+        let told = leb-true _ _ (point.0 229 d (omega arith) (omega (arith, e, last))) in
+        absurd (omega (arith, told, high, ends zone years all.each_year 229 d last, day_number-end))
+
+    begun : (d : Year) (i : ℕ) → i < length years → (get_or years i d).number ≡ 1970 + i → IsPartitionPoint (λ y. EndsBy day y ≡ true) (λ y. EndsBy day y ≡ false) years i → day_number (get_or years i d).number 1 1 ≤ day
+    begun d zero h number point = omega (arith, day_number-epoch, ap (λ (y : ℕ). day_number y 1 1) number)
+    begun d (suc k) h number point =
+        let before = ends zone years all.each_year k d (omega (arith, h)) in
+        let told = leb-true _ _ (point.0 k d (omega arith) (omega arith)) in
+        let same : day_number (get_or years (suc k) d).number 1 1 ≡ day_number (1971 + k) 1 1 = ap (λ (y : ℕ). day_number y 1 1) (omega (arith, number)) in
+        omega (arith, before, told, same)
+
+-- the noon that such a year gives is that of the list
+pub noon_found : (zone : Zone) (day moment : ℕ) (year : Year) → IsZone zone → 2 ≤ day → day ≤ 84_002
+    → day_number year.number 1 1 ≤ day → day < day_number (year.number + 1) 1 1
+    → pos moment ≡ pos (86400 * day + 43200) -ℤ east_on zone year.number day → moment ≡ get_or (noons_of zone) (day - 2) 0
+noon_found zone day moment year h low high begun unended e =
+    one_noon zone day moment _ (record { year = year.number; begun = begun; unended = unended; is = e })
+    ((noons_are zone h).noon day low (omega (arith, high, length-noons_of zone)))

@@ -4,3 +4,4 @@ pub mod Numbers
 pub mod Days
 pub mod Zones
 pub mod Noons
+pub mod Laws

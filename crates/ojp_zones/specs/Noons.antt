@@ -1,5 +1,6 @@
 -- The noon of each day in a zone.
-use Rattle.std.specs.Prelude.{◌≡◌, ℕ, ℤ, pos, neg_ℤ, Bool, ◌&&◌, ◌||◌, ◌==◌, cond, nat_le, nat_lt, ◌+◌, ◌-◌, ◌*◌, ◌%◌, ◌≤◌, ◌<◌, ◌-ℤ◌, ◌≤ℤ◌, List, length, slice_index, Option, Some, None, IfSome}
+use Rattle.std.specs.Prelude.{◌≡◌, ℕ, ℤ, pos, neg_ℤ, Bool, ◌&&◌, ◌||◌, ◌==◌, cond, nat_le, nat_lt, ◌+◌, ◌-◌, ◌*◌, ◌%◌, ◌≤◌, ◌<◌, ◌-ℤ◌, ◌≤ℤ◌, zero, suc, List, [], ◌∷◌, length, slice_index, slice_index_or, Option, Some, None, IfSome, unsigned_abs}
+use Rattle.ojp_values.specs.Dates.{date_of}
 use Rattle.ojp_zones.specs.Days.{day_number, next_month}
 use Rattle.ojp_zones.specs.declared.zone.DateRule.{DateRule}
 use Rattle.ojp_zones.specs.declared.zone.Summer.{Summer}
@@ -50,6 +51,19 @@ pub record IsNoon (zone : Zone) (day moment : ℕ) : Type 0 where
 pub record AreNoons (zone : Zone) (noons : List ℕ) : Type 0 where
   pub noon : (day : ℕ) → 2 ≤ day → day < 2 + length noons → IsNoon zone day (slice_index noons (day - 2))
 
+-- the moment of the zone's noon of the day
+unfoldable pub noon_of : Zone → ℕ → ℕ
+noon_of zone day = unsigned_abs (pos (86400 * day + 43200) -ℤ east_on zone (date_of day).year day)
+
+-- the noons of so many days from the first on
+unfoldable pub noons_from : Zone → ℕ → ℕ → List ℕ
+noons_from zone first zero = []
+noons_from zone first (suc days) = noon_of zone first ∷ noons_from zone (first + 1) days
+
+-- the noons of the operating days, from day 2 to day 84,002
+unfoldable pub noons_of : Zone → List ℕ
+noons_of zone = noons_from zone 2 84_001
+
 -- the numbers of a date rule are in range
 abbrev pub IsRule : DateRule → Type 0
 IsRule rule = (1 ≤ rule.month) × (rule.month ≤ 12) × (1 ≤ rule.week) × (rule.week ≤ 5) × (rule.weekday ≤ 6)
@@ -84,3 +98,20 @@ pub record IsYear (zone : Zone) (year : Year) : Type 0 where
   pub to : year.number < 2200
   pub next : year.next ≡ day_number (year.number + 1) 1 1
   pub season : IsSeason zone.summer year.number year.season
+
+-- the years are those from 1970 on
+pub record AreYears (zone : Zone) (years : List Year) : Type 0 where
+  pub each : (i : ℕ) (d : Year) → i < length years → IsYear zone (slice_index_or years i d) × ((slice_index_or years i d).number ≡ 1970 + i)
+
+-- the zone is in range, and the years are all from 1970 to 2199
+pub record AreAllYears (zone : Zone) (years : List Year) : Type 0 where
+  pub zone_in_range : IsZone zone
+  pub each_year : AreYears zone years
+  pub count : length years ≡ 230
+
+-- the year of that number is one of the years, and the day lies in it
+pub record HoldsDay (zone : Zone) (years : List Year) (day i : ℕ) : Type 0 where
+  pub inside : i < length years
+  pub is : (d : Year) → IsYear zone (slice_index_or years i d)
+  pub begun : (d : Year) → day_number (slice_index_or years i d).number 1 1 ≤ day
+  pub unended : (d : Year) → day < day_number ((slice_index_or years i d).number + 1) 1 1

@@ -27,10 +27,6 @@ is_number low high text = is_plain text && nat_le low (number text) && nat_le (n
 unfoldable pub is_pair : ℕ → Text → Bool
 is_pair most text = length text == 2 && are_digits text && nat_le (number text) most
 
--- four digits, from low to high
-unfoldable pub is_four : ℕ → ℕ → Text → Bool
-is_four low high text = length text == 4 && are_digits text && nat_le low (number text) && nat_le (number text) high
-
 -- one digit or two, up to most
 unfoldable pub is_hour : ℕ → Text → Bool
 is_hour most text = nat_le (length text) 2 && are_digits text && nat_le (number text) most

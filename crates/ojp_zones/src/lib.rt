@@ -2,7 +2,7 @@
 #![tactic(auto)]
 
 mod calendar;
-pub mod days;
+pub mod laws;
 pub mod noons;
 pub mod numbers;
 pub mod parts;

@@ -1,17 +1,15 @@
-//! The moments of the noons of all operating days.
-ghost use Rattle.std.specs.Prelude.{◌≡◌, ◌≤◌, ◌<◌, ◌+◌, ◌*◌, ◌&&◌, pos, neg_ℤ, ◌-ℤ◌, ◌≤ℤ◌, IfOk, length};
+//! The moments of the noons of the operating days.
+ghost use Rattle.std.specs.Prelude.{◌≡◌, ◌≤◌, ◌<◌, ◌+◌, ◌*◌, ◌&&◌, pos, neg_ℤ, ◌-◌, ◌-ℤ◌, ◌≤ℤ◌, IfOk, length, slice_index};
 ghost use Rattle.ojp_zones.specs.Days.{day_number};
-ghost use Rattle.ojp_zones.specs.Noons.{AreNear, AreNoons, IsNoon, IsOffset, IsYear, IsZone, east_by, east_on, is_second};
+ghost use Rattle.ojp_zones.specs.declared.zone.Zone.{Zone as ZoneValue};
+ghost use Rattle.ojp_zones.specs.Noons.{AreAllYears, AreNear, AreNoons, HoldsDay, IsOffset, IsYear, IsZone, east_by, east_on, is_second};
 
 use crate::calendar::{change_day, month_start};
 use crate::year::{Season, Year};
 use crate::zone::Zone;
+use ojp_values::moments::{FIRST_DAY, LAST_DAY};
 use std::alloc::{AllocError, Global};
-
-/// The first and the last operating day, 1970-01-03 and 2199-12-28, as days since 1970-01-01.
-pub const FIRST_DAY: u32 = 2;
-
-pub const LAST_DAY: u32 = 84_002;
+use std::marker::Model;
 
 // The moment of the noon at an offset.
 fn noon(day: u32, east: i32) -> u64
@@ -71,21 +69,64 @@ fn noon_in(zone: &Zone, year: &Year, day: u32) -> u64
     }
 }
 
-/// The moments of the noons of the operating days in the zone, from the first day on, in seconds
-/// since 1970-01-01T00:00:00Z.
-pub fn noons(alloc: Global, zone: &Zone) -> Result<Vec<u64>, AllocError>
+// The years from 1970 to 2199 in the zone.
+fn years(alloc: Global, zone: &Zone) -> Result<Vec<Year>, AllocError>
     requires { IsZone zone.now }
-    ensures noons { IfOk result (λ noons. AreNoons zone.now noons.items) }
-    ensures days { IfOk result (λ noons. length noons.items ≡ 84001) }
-    ensures near { IfOk result (λ noons. AreNear noons.items) }
+    ensures { IfOk result (λ years. AreAllYears zone.now years.items) }
 {
-    let mut noons = Vec::with_capacity(alloc, 84_001)?;
-    let mut year = year_in(zone, 1970);
-    for day in FIRST_DAY..LAST_DAY + 1 {
-        if day == year.next {
-            year = year_in(zone, year.number + 1);
-        }
-        noons.push(noon_in(zone, &year, day))?;
+    let mut years = Vec::with_capacity(alloc, 230)?;
+    for number in 1970..2200 {
+        years.push(year_in(zone, number))?;
     }
-    Ok(noons)
+    Ok(years)
+}
+
+// The number of the year in which the day lies.
+fn year_with(years: &[Year], day: u32) -> usize
+    requires { day ≤ LAST_DAY }
+    ensures { (zone : ZoneValue) → AreAllYears zone years.now → HoldsDay zone years.now day result }
+{
+    years.partition_point(|year| year.next <= day)
+}
+
+/// The noons of the operating days in a zone. They are seen as the list of their moments, from the
+/// first day on, in seconds since 1970-01-01T00:00:00Z, and kept by the years of the zone.
+#[derive(Drop)]
+pub struct Noons {
+    zone: Zone,
+    years: Vec<Year>,
+}
+
+impl Model for Noons {
+    ghost use Rattle.std.specs.Prelude.{ℕ, List};
+    ghost use Rattle.ojp_zones.specs.Noons.{AreAllYears, noons_of};
+
+    ghost Value = { List ℕ };
+
+    ghost view = { λ n. noons_of n.zone };
+
+    ghost invariant = { λ n. AreAllYears n.zone n.years.items };
+}
+
+impl Noons {
+    /// The noons in the zone.
+    pub fn new(alloc: Global, zone: &Zone) -> Result<Noons, AllocError>
+        requires { IsZone zone.now }
+        ensures noons { IfOk result (AreNoons zone.now) }
+        ensures days { IfOk result (λ noons. length noons ≡ 84001) }
+        ensures near { IfOk result AreNear }
+    {
+        let years = years(alloc, zone)?;
+        Ok(Noons { zone: *zone, years })
+    }
+
+    /// The moment of the noon of the day; takes no memory.
+    pub fn at(&self, day: u32) -> u64
+        requires from { FIRST_DAY ≤ day }
+        requires to { day ≤ LAST_DAY }
+        ensures { result ≡ slice_index self.now (day - FIRST_DAY) }
+    {
+        let years = self.years.as_slice();
+        noon_in(&self.zone, &years[year_with(years, day)], day)
+    }
 }

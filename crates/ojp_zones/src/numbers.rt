@@ -2,7 +2,7 @@
 ghost use Rattle.std.specs.Prelude.{◌≡◌, ◌≤◌, ◌<◌, ◌==◌, MatchOption, IfSome, length};
 ghost use Rattle.std.specs.List.{list_all};
 ghost use Rattle.std.specs.Char.{is_ascii_digit};
-ghost use Rattle.ojp_zones.specs.Numbers.{are_digits, is_number, is_pair, is_four, is_hour, is_plain, number, number_if};
+ghost use Rattle.ojp_zones.specs.Numbers.{are_digits, is_hour, is_number, is_pair, number, number_if};
 
 // The number that the bytes write as digits, if it is at most `most`.
 fn value(text: &[u8], most: u32) -> Option<u32>
@@ -36,20 +36,15 @@ fn are_digits(text: &[u8]) -> bool
 }
 
 /// The number from `low` to `high`, if the text is one without leading zeros.
-#[tactic(auto, unfolding(crate::specs::Numbers::is_number))]
 pub fn read_number(text: &[u8], low: u32, high: u32) -> Option<u32>
-    requires { high ≤ 1_000_000 }
     ensures value { result ≡ number_if (is_number low high text.now) text.now }
     ensures within { IfSome result (λ n. (low ≤ n) × (n ≤ high)) }
 {
-    if !are_digits(text) {
-        return None;
-    }
-    if text.len() != 1 && text[0] == b'0' {
-        return None;
-    }
-    let number = value(text, high)?;
+    let number = ojp_values::read_number(text)?;
     if number < low {
+        return None;
+    }
+    if number > high {
         return None;
     }
     Some(number)
@@ -85,24 +80,4 @@ pub fn read_hour(text: &[u8], most: u32) -> Option<u32>
         return None;
     }
     value(text, most)
-}
-
-/// The number of four digits, if the text is one from `low` to `high`.
-#[tactic(auto, unfolding(crate::specs::Numbers::is_four))]
-pub fn read_four(text: &[u8], low: u32, high: u32) -> Option<u32>
-    requires { high ≤ 1_000_000 }
-    ensures value { result ≡ number_if (is_four low high text.now) text.now }
-    ensures within { IfSome result (λ n. (low ≤ n) × (n ≤ high)) }
-{
-    if text.len() != 4 {
-        return None;
-    }
-    if !are_digits(text) {
-        return None;
-    }
-    let number = value(text, high)?;
-    if number < low {
-        return None;
-    }
-    Some(number)
 }
