@@ -24,3 +24,4 @@ pub mod Orders
 pub mod ReadFacts
 pub mod ExampleFacts
 pub mod LegalFacts
+pub mod DayFacts

@@ -8,7 +8,6 @@ use Rattle.ojp_values.specs.Lists.{Among, Each}
 use Rattle.ojp_values.specs.Texts.{Text, same, is_code, is_exchange, is_label, is_name, is_stop_ref}
 use Rattle.ojp_values.specs.declared.trips.Point.{Point}
 use Rattle.ojp_values.specs.declared.trips.Neighbour.{Neighbour}
-use Rattle.ojp_zones.specs.Days.{day_of}
 use Rattle.ojp_zones.specs.Numbers.{is_number}
 use Rattle.ojp_zones.specs.Zones.{zone_of}
 use Rattle.ojp_zones.specs.declared.zone.Zone.{Zone}
@@ -17,7 +16,7 @@ use Rattle.ojp_timetable.specs.Contents.{has_place, neighbours_at, point_at, poi
 use Rattle.ojp_timetable.specs.Fields.{body, fields_of, joined}
 use Rattle.ojp_timetable.specs.Lines.{Above, after_line, grown, new_point, no_lines}
 use Rattle.ojp_timetable.specs.Points.{AreWellPoints, IsPointOf}
-use Rattle.ojp_timetable.specs.Said.{Said, call_fields, entry_fields, entry_said, formed, header_said, journey_fields, may_call, is_place, neighbour_fields, place_fields, region_said, said, service_days, service_fields, valued, word_fields, word_of, zone_said, zoned, is_closed, call_said}
+use Rattle.ojp_timetable.specs.Said.{Said, call_fields, day_of, entry_fields, entry_said, formed, header_said, journey_fields, may_call, is_place, neighbour_fields, place_fields, region_said, said, service_days, service_fields, valued, word_fields, word_of, zone_said, zoned, is_closed, call_said}
 use Rattle.ojp_timetable.specs.Checks.{checked, first_failing, has_neighbour, is_doubled, is_foreign, is_long, is_falling, is_full, lacks_service, lacks_stop, read_line, verdict}
 use Rattle.ojp_timetable.specs.TableText.{above_of, with_line, with_said}
 use Rattle.ojp_timetable.specs.declared.lines.Line.{Line}

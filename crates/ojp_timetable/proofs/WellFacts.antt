@@ -9,6 +9,7 @@ use Rattle.ojp_zones.specs.declared.zone.Zone.{Zone}
 use Rattle.ojp_values.specs.Texts.{Text, same, home, is_exchange, code_part}
 use Rattle.ojp_values.specs.declared.trips.Point.{Point}
 use Rattle.ojp_values.specs.declared.trips.Neighbour.{Neighbour}
+use Rattle.ojp_timetable.specs.declared.above.TheConstants.{BYTES}
 use Rattle.ojp_timetable.specs.Tables.{Call, Journey, Place, Service}
 use Rattle.ojp_timetable.specs.Points.{AreWellPoints}
 use Rattle.ojp_timetable.specs.Runs.{AreDays, AreWhole, GoToEnd, HaveOwnLabels, IsOffset, IsWell, IsWellCall, NoneFalls, NotBefore, calls_of, latest}
@@ -595,7 +596,7 @@ zone_line above (lines.Call call) w l = w
 
 -- a line that passes keeps the lines above well
 pub above_keeps : (above : Above) (text : Text) (line : Line) → IsWellAbove above → IsWellLine above.lines line → MayStand above.left line → Passes above.contents above.left line
-    → above.bytes + length text ≤ 16777216 → IsWellAbove (after_line above text line)
+    → above.bytes + length text ≤ BYTES → IsWellAbove (after_line above text line)
 above_keeps above text line w l o p b = record {
   named = named_line above line w.named l;
   zone = zone_line above line w.zone l;

@@ -8,6 +8,7 @@ use Rattle.ojp_timetable.specs.Contents.{Contents, has_place, has_service, has_j
 use Rattle.ojp_timetable.specs.Lines.{Above}
 use Rattle.ojp_timetable.specs.Said.{Said, said, is_closed}
 use Rattle.ojp_timetable.specs.Fields.{body}
+use Rattle.ojp_timetable.specs.declared.above.TheConstants.{BYTES}
 use Rattle.ojp_timetable.specs.declared.lines.Line.{Line}
 use Rattle.ojp_timetable.specs.declared.lines.Line.TheVariants.{Place, Neighbour as NeighbourLine, Service, Journey, Call as CallLine}
 use Rattle.ojp_timetable.specs.declared.lines.Open.{Open}
@@ -82,7 +83,7 @@ is_full contents _ = false
 
 -- the line ends past byte 16,777,216, the last that a file may have
 unfoldable pub is_long : Above → Text → Bool
-is_long above text = nat_lt 16777216 (above.bytes + length text)
+is_long above text = nat_lt BYTES (above.bytes + length text)
 
 -- the first reason whose test holds
 abbrev pub first_failing : List (Bool × TableReason) → Option TableReason

@@ -1,8 +1,11 @@
 -- Laws of the text of a timetable.
-use Rattle.std.specs.Prelude.{◌≡◌, ℕ}
+use Rattle.std.specs.Prelude.{◌≡◌, ◌≤◌, ℕ}
+use Rattle.ojp_values.specs.Dates.{day_text}
+use Rattle.ojp_values.specs.Numbers.{Reads}
 use Rattle.ojp_values.specs.Texts.{Text}
 use Rattle.ojp_timetable.specs.Tables.{Timetable}
 use Rattle.ojp_timetable.specs.Points.{AreWellPoints}
+use Rattle.ojp_timetable.specs.Said.{day_of}
 use Rattle.ojp_timetable.specs.TableText.{IsRefused, IsText}
 use Rattle.ojp_timetable.specs.declared.lines.TableReason.{TableReason}
 
@@ -25,3 +28,7 @@ TableIsOne = (bytes : Text) (table other : Timetable) → IsText bytes table →
 -- no more than a timetable may have, and with change times in range
 abbrev pub PointsAreWell : Type 0
 PointsAreWell = (bytes : Text) (table : Timetable) → IsText bytes table → AreWellPoints table.region table.points
+
+-- the days of services are spelled as those of documents are
+abbrev pub DaysAreSpelled : Type 0
+DaysAreSpelled = (text : Text) → Reads (λ n. (2 ≤ n) × (n ≤ 84_002)) day_text text (day_of text)

@@ -11,6 +11,7 @@ use Rattle.ojp_zones.specs.Noons.{AreNear, IsZone}
 use Rattle.ojp_timetable.specs.Lines.{Above}
 use Rattle.ojp_timetable.specs.Checks.{is_doubled, is_falling, is_foreign, is_full, lacks_service, lacks_stop}
 use Rattle.ojp_timetable.specs.Said.{is_closed}
+use Rattle.ojp_timetable.specs.declared.above.TheConstants.{BYTES}
 use Rattle.ojp_timetable.specs.declared.lines.Line.{Line}
 use Rattle.ojp_timetable.specs.declared.lines.Line.TheVariants.{Header, Region, Zone, Call as CallLine}
 use Rattle.ojp_timetable.specs.declared.lines.Open.{Open}
@@ -104,7 +105,7 @@ pub record IsWellSoFar (above : Above) : Type 0 where
 pub record IsWellAbove (above : Above) : Type 0 where
   pub named : 2 ≤ above.lines → 0 < length above.contents.region
   pub zone : IsZone above.contents.zone
-  pub bytes : above.bytes ≤ 16777216
+  pub bytes : above.bytes ≤ BYTES
   pub so_far : IsWellSoFar above
 
 -- what is kept of a timetable beside what its lines say: the region is named, there is a noon for each operating

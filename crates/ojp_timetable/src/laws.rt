@@ -4,7 +4,7 @@ ghost use Rattle.ojp_timetable.specs.Bounds.{AnswersAreBounded};
 ghost use Rattle.ojp_timetable.specs.Examples.{ChangeIsExact, DayIsExact, FaultsAreNamed, OutAndBackIsNone, PointsAreListed, RideIsAJourney};
 ghost use Rattle.ojp_timetable.specs.Journeys.{LegsAreBounded};
 ghost use Rattle.ojp_timetable.specs.Stepwise.{FormsAgree};
-ghost use Rattle.ojp_timetable.specs.TextLaws.{PointsAreWell, RefusalIsOne, TableIsOne, TextIsNotRefused};
+ghost use Rattle.ojp_timetable.specs.TextLaws.{DaysAreSpelled, PointsAreWell, RefusalIsOne, TableIsOne, TextIsNotRefused};
 
 /// A ride of a small timetable is a journey of its region, and of the regions together.
 pub fn ride_is_a_journey()
@@ -71,4 +71,9 @@ pub fn points_are_well()
 /// The gateway lists the entries of all regions at an exchange point, by their codes.
 pub fn points_are_listed()
     ensures { PointsAreListed }
+{}
+
+/// The days of services are spelled as those of documents are.
+pub fn days_are_spelled()
+    ensures { DaysAreSpelled }
 {}

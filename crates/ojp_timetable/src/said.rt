@@ -6,15 +6,14 @@ ghost use Rattle.ojp_timetable.specs.Lines.{IsWellLine, left_open};
 ghost use Rattle.ojp_timetable.specs.Runs.{IsOffset};
 ghost use Rattle.ojp_timetable.specs.WellContents.{MayStand, MayStandClosed};
 ghost use Rattle.ojp_timetable.specs.Fields.{fields_of, IsNotThree, IsNotTwo};
-ghost use Rattle.ojp_timetable.specs.Said.{are_marks, call_fields, call_said, entry_said, header_said, is_closed, is_dash, is_mark, is_offset, journey_fields, journey_said, marks_of, may_call, neighbour_fields, neighbour_said, offset, place_fields, place_said, region_said, said, service_fields, service_said, word_fields, zone_said};
+ghost use Rattle.ojp_timetable.specs.Said.{are_marks, call_fields, call_said, day_of, entry_said, header_said, is_closed, is_dash, is_mark, is_offset, journey_fields, journey_said, marks_of, may_call, neighbour_fields, neighbour_said, offset, place_fields, place_said, region_said, said, service_fields, service_said, word_fields, zone_said};
 
 use crate::calls::Call;
 use crate::fields::Fields;
 use crate::lines::{Dates, Line, Open, TableReason};
 use crate::read_words::word_of;
 use crate::words::Word;
-use ojp_values::{Code, Label, Name, Neighbour, StopRef};
-use ojp_zones::days::read_day;
+use ojp_values::{Code, Day, Label, Name, Neighbour, StopRef};
 use ojp_zones::numbers::read_number;
 use ojp_zones::zone_text::read_zone;
 
@@ -108,6 +107,15 @@ fn read_marks(text: &[u8]) -> Option<[bool; 7]>
         ]),
         _ => None,
     }
+}
+
+// The number of the operating day that the text spells.
+fn read_day(text: &[u8]) -> Option<u32>
+    ensures value { result ≡ day_of text.now }
+    ensures within { IfSome result (λ day. (2 ≤ day) × (day ≤ 84002)) }
+{
+    let day = Day::read(text)?;
+    Some(day.number())
 }
 
 // A service with its first and last day and its weekdays.

@@ -9,7 +9,7 @@ use crate::lines::Dates;
 use crate::reading::read_lines;
 use crate::refusals::TableRefused;
 use ojp_values::{Code, Day, Instant, Label, Name, Point, StopRef};
-use ojp_zones::noons::noons;
+use ojp_zones::noons::Noons;
 use std::alloc::Global;
 use std::marker::Model;
 
@@ -18,7 +18,7 @@ use std::marker::Model;
 #[derive(Drop)]
 pub struct Timetable {
     draft: Draft,
-    noons: Vec<u64>,
+    noons: Noons,
 }
 
 impl Model for Timetable {
@@ -29,9 +29,9 @@ impl Model for Timetable {
     ghost use Rattle.ojp_timetable.specs.Contents.{timetable_of};
     ghost use Rattle.ojp_timetable.specs.WellContents.{IsWhole};
 
-    ghost view = { λ t. timetable_of t.draft t.noons.items };
+    ghost view = { λ t. timetable_of t.draft t.noons };
 
-    ghost invariant = { λ t. IsWhole t.draft t.noons.items };
+    ghost invariant = { λ t. IsWhole t.draft t.noons };
 }
 
 impl Timetable {
@@ -51,7 +51,7 @@ impl Timetable {
         let mut above = Above::new(alloc);
         read_lines(alloc, bytes, &mut above)?;
         let draft = above.into_draft();
-        let Ok(noons) = noons(alloc, draft.zone()) else {
+        let Ok(noons) = Noons::new(alloc, draft.zone()) else {
             return Err(TableRefused::NoMemory);
         };
         Ok(Timetable { draft, noons })
@@ -110,7 +110,7 @@ impl Timetable {
         requires { offset ≤ 129600 }
         ensures { result ≡ moment self.now day offset }
     {
-        let noon = self.noons[(day.number() - 2) as usize];
+        let noon = self.noons.at(day.number());
         match Instant::new(noon - 43_200 + u64::from(offset)) {
             Ok(moment) => moment,
             Err(_) => unreachable!(),

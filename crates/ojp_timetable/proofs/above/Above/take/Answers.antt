@@ -1,4 +1,5 @@
 use Rattle.std.proofs.Common.{◌+◌, ◌≤◌, length, sym, subst}
+use Rattle.ojp_timetable.specs.declared.above.TheConstants.{BYTES}
 use Rattle.ojp_timetable.specs.Contents.{Contents}
 use Rattle.ojp_timetable.specs.Lines.{Above, IsWellLine, grown}
 use Rattle.ojp_timetable.specs.WellContents.{IsWellAbove, MayStand, Passes}
@@ -17,7 +18,7 @@ invariant_of-self-2 c =
     (subst (λ (a : Above). IsWellLine a.lines line) v c.in-Ok.ensures.well)
     (subst (λ (a : Above). MayStand a.left line) v c.in-Ok.ensures.stands)
     (subst (λ (a : Above). Passes a.contents a.left line) v c.in-Ok.ensures.passes)
-    (subst (λ (a : Above). a.bytes + length text ≤ 16777216) v c.in-Ok.ensures.short) in
+    (subst (λ (a : Above). a.bytes + length text ≤ BYTES) v c.in-Ok.ensures.short) in
     subst (λ (contents : Contents). IsWellAbove (record { lines = s.lines + 1; bytes = s.bytes + length text; left = c.left_open-self-inside.result; contents = contents }))
     (sym c.in-Ok-add.ensures.value)
     (subst (λ (left : Open). IsWellAbove (record { lines = s.lines + 1; bytes = s.bytes + length text; left = left; contents = grown s.draft line }))
