@@ -1,5 +1,5 @@
 -- No wanted document is long.
-use Rattle.std.proofs.Common.{◌≡◌, refl, ℕ, ◌+◌, ◌*◌, ◌^◌, ◌<◌, ◌≤◌, List, [], ◌∷◌, ◌++◌, length, get_or, inl, inr, ◌∙◌, ap, arith, length-append, lit<}
+use Rattle.std.proofs.Common.{◌≡◌, refl, ℕ, ◌+◌, ◌*◌, ◌^◌, ◌<◌, ◌≤◌, List, [], ◌∷◌, ◌++◌, length, get_or, inl, inr, ◌∙◌, ap, arith, length-append, lit<, lit≤}
 use Rattle.std.specs.Prelude.{Bool, nat_le}
 use Rattle.std.specs.List.{AllByRecursion}
 use Rattle.std.proofs.lemmas.Bool.{leb-true}
@@ -14,7 +14,7 @@ use Rattle.ojp_grammar.specs.Items.{Item, tag, value, item_text, spell}
 use Rattle.ojp_grammar.specs.Items as items
 use Rattle.ojp_grammar.specs.Syntax.{Syntax, text, field, both, either, many, Says, put, put_each, Fits, value_of}
 use Rattle.ojp_grammar.specs.Grammar.{REQUEST, DELIVERY, document}
-use Rattle.ojp_grammar.specs.Documents.{request_said, delivery_said, IsWell}
+use Rattle.ojp_grammar.specs.Documents.{request_said, delivery_said, IsWanted, IsWell}
 use Rattle.ojp_grammar.specs.Documents as documents
 use Rattle.ojp_grammar.specs.Steps.{IsPlain}
 use Rattle.ojp_grammar.specs.Reached.{At, start_of}
@@ -82,6 +82,16 @@ document_short (docs.Ask a) f =
     let short = said_short (document REQUEST) (wanted_plain Request) (request_said a) [] f in omega (arith, short, request_most)
 document_short (docs.Delivery r) f =
     let short = said_short (document DELIVERY) (wanted_plain Delivery) (delivery_said r) [] f in omega (arith, short, delivery_most)
+
+request_within : most (document REQUEST) ≤ 1048576
+request_within = lit≤ tt
+
+-- a request has at most 1,048,576 bytes
+pub request_short : (doc : Doc) → IsWanted Request doc → length (spell (documents.items doc)) ≤ 1048576
+unfolding documents.items IsWell
+request_short (docs.Ask a) w =
+    let short = said_short (document REQUEST) (wanted_plain Request) (request_said a) [] w.1 in omega (arith, short, request_within)
+request_short (docs.Delivery r) w = absurd w.0
 
 front_length : (front rest : List Item) → length (spell front) ≤ length (spell (front ++ rest))
 front_length front rest =

@@ -14,3 +14,4 @@ pub mod Whole
 pub mod Laws
 pub mod Reasons
 pub mod Answering
+pub mod Short

@@ -1,6 +1,7 @@
 //! Laws of the documents.
 
 ghost use Rattle.ojp_grammar.specs.Laws.{OneSpelling, OnePlace, MoreIsRefused, OnlyMoreIsRefused, AreShort};
+ghost use Rattle.ojp_grammar.specs.Short.{RequestsAreShort};
 
 /// Documents that are spelled at the front of the same bytes are one document, and the same bytes
 /// stand behind it: each document has one spelling, and no spelling begins another.
@@ -23,4 +24,9 @@ pub fn written_is_read()
 /// No wanted document is long: it has fewer than 2^41 bytes.
 pub fn documents_are_short()
     ensures { AreShort }
+{}
+
+/// A request fits the limit of a body: it has at most 1,048,576 bytes.
+pub fn requests_are_short()
+    ensures { RequestsAreShort }
 {}
