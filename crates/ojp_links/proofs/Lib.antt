@@ -1,3 +1,6 @@
 pub mod RisingFacts
 pub mod LegFacts
 pub mod ResultFacts
+pub mod ServedFacts
+pub mod KindFacts
+pub mod FitFacts

@@ -5,3 +5,5 @@ pub mod Orders
 pub mod Replies
 pub mod Seen
 pub mod Calls
+pub mod Sure
+pub mod Laws

@@ -3,6 +3,7 @@
 
 mod expect;
 mod fitting;
+pub mod laws;
 mod links;
 
 pub use expect::Expect;
