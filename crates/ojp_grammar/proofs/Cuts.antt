@@ -7,7 +7,7 @@ use Rattle.std.proofs.lemmas.List.{get_or-take, append-nil}
 use Rattle.std.proofs.Math.Seq.{drop-cons}
 use Rattle.memchr.specs.Find.{IsFirstByte, is_byte}
 use Rattle.ojp_grammar.specs.Places.{Run, IsProperPrefix, BeginsMarkup}
-use Rattle.ojp_grammar.specs.Machine.{IsRun, IsField, IsFront, IsCut, Finds}
+use Rattle.ojp_grammar.specs.Machine.{IsRun, IsField, IsFront, IsCutText, Finds}
 use Rattle.std.proofs.lemmas.List.Elements.{All-from_recursion}
 use Rattle.ojp_values.specs.declared.kinds.Kind.{Kind}
 use Rattle.ojp_grammar.specs.declared.fields.FieldValue.{FieldValue}
@@ -59,7 +59,7 @@ text_comes s bytes n plain first at_front =
     (begun_length (text n) bytes at_front, omega (arith, some), (first, begun (text n) bytes at_front))
 
 -- where no text is found and none is cut short, markup is refused
-pub no_text : (s : Syntax) (bytes : List ℕ) → wants s ≡ None → IsFront s bytes None → IsCut s bytes false → Sticks s bytes reasons.Markup
+pub no_text : (s : Syntax) (bytes : List ℕ) → wants s ≡ None → IsFront s bytes None → IsCutText s bytes None → Sticks s bytes reasons.Markup
 no_text s bytes none absent uncut = (
   none,
   (λ n first behind e. absent n first (ap (λ b. starts_with nat_eq b (text n)) e ∙ starts_with-append (text n) behind)),

@@ -14,7 +14,7 @@ through : (xs ys : List Item) (next : Option Waiting) → ((v : Waiting) → fol
 through xs ys None h = refl
 through xs ys (Some v) h = h v
 
-fold-append : (w : Waiting) (xs ys : List Item) → fold w (xs ++ ys) ≡ onward (fold w xs) (λ v. fold v ys)
+pub fold-append : (w : Waiting) (xs ys : List Item) → fold w (xs ++ ys) ≡ onward (fold w xs) (λ v. fold v ys)
 fold-append w [] ys = refl
 fold-append w (i ∷ xs) ys = through xs ys (step i w) (λ v. fold-append v xs ys)
 

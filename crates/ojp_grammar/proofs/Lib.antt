@@ -14,7 +14,11 @@ pub mod OneKind
 pub mod Folds
 pub mod Drafts
 pub mod Lengths
+pub mod Fronts
+pub mod Depths
+pub mod Parts
 pub mod Runs
+pub mod Cutting
 pub mod Ended
 pub mod Unique
 pub mod Spellings

@@ -62,11 +62,19 @@ SERVICE =
 abbrev pub HALT : Syntax
 HALT = both REF (both (leaf names.STOP_POINT_NAME kinds.Name) (leaf names.TIMETABLED_TIME kinds.Moment))
 
-abbrev pub LEG : Syntax
-LEG =
-    element names.TRIP_LEG
-    (element names.TIMED_LEG
+-- what a leg has behind its opening text
+abbrev pub BEHIND_TRIP_LEG : Syntax
+BEHIND_TRIP_LEG =
+    both (element names.TIMED_LEG
     (both (element names.LEG_BOARD HALT) (both (element names.LEG_ALIGHT HALT) SERVICE)))
+    (text (names.TRIP_LEG + 1))
+
+abbrev pub LEG : Syntax
+LEG = both (text names.TRIP_LEG) BEHIND_TRIP_LEG
+
+-- legs, so many to so many, and the end of the trip
+abbrev pub legs_of : ℕ → ℕ → Syntax
+legs_of low high = many low high LEG (text (names.TRIP + 1))
 
 abbrev pub TRIP : Syntax
 TRIP =
@@ -74,7 +82,7 @@ TRIP =
     (both (leaf names.DURATION kinds.Seconds)
     (both (leaf names.START_TIME kinds.Moment)
     (both (leaf names.END_TIME kinds.Moment)
-    (both (leaf names.TRANSFERS kinds.Count) (many 1 86_401 LEG (text (names.TRIP + 1)))))))
+    (both (leaf names.TRANSFERS kinds.Count) (legs_of 1 86_401)))))
 
 -- ---- faults
 

@@ -7,6 +7,7 @@ pub mod Places
 pub mod Steps
 pub mod Folding
 pub mod Drafting
+pub mod Fronts
 pub mod Machine
 pub mod Reached
 pub mod Running

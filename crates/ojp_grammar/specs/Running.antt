@@ -6,7 +6,7 @@ use Rattle.ojp_grammar.specs.declared.refusals.Want.{Want}
 use Rattle.ojp_grammar.specs.Items.{Item, spell}
 use Rattle.ojp_grammar.specs.Documents.{IsWanted, Spells}
 use Rattle.ojp_grammar.specs.Syntax.{Syntax}
-use Rattle.ojp_grammar.specs.Steps.{stack_of}
+use Rattle.ojp_grammar.specs.Steps.{stack_of, AreShallow}
 use Rattle.ojp_grammar.specs.Reached.{At, start_of}
 use Rattle.ojp_grammar.specs.Folding.{Waiting, nothing, fold}
 
@@ -14,6 +14,7 @@ use Rattle.ojp_grammar.specs.Folding.{Waiting, nothing, fold}
 pub record IsReading (want : Want) (at : ℕ) (open_shapes : List Syntax) (waiting : Waiting) (bytes tail : List ℕ) : Type 0 where
   pub front : List Item
   pub reached : At (start_of want) bytes front open_shapes tail
+  pub shallow : AreShallow open_shapes
   pub place : at ≡ length (spell front)
   pub folded : fold nothing front ≡ Some waiting
 

@@ -1,14 +1,15 @@
 -- One item at a time: what may come next, and what is open behind it.
-use Rattle.std.specs.Prelude.{◌≡◌, ℕ, ◌-◌, ◌<◌, ◌≤◌, Bool, true, false, ◌==◌, ◌||◌, ◌&&◌, if◌then◌else◌, not, List, [], ◌∷◌, ◌++◌, Option, Some, None, ◌⊎◌, map, reverse}
+use Rattle.std.specs.Prelude.{◌≡◌, ℕ, ◌+◌, ◌-◌, max, ◌<◌, ◌≤◌, Bool, true, false, ◌==◌, ◌||◌, ◌&&◌, if◌then◌else◌, not, List, [], ◌∷◌, ◌++◌, Option, Some, None, ◌⊎◌, map, reverse, length}
 use Rattle.ojp_values.specs.declared.kinds.Kind.{Kind}
 use Rattle.ojp_grammar.specs.declared.fields.FieldValue.{FieldValue}
-use Rattle.ojp_grammar.specs.declared.shapes.Shape.{Shape, Text, Field, Both', Either', Many'}
+use Rattle.ojp_grammar.specs.declared.shapes.Shape.{Shape, Text, Field, Both', Either', Many', Legs}
 use Rattle.ojp_grammar.specs.declared.refusals.Reason.{Reason}
 use Rattle.ojp_grammar.specs.declared.refusals.Reason.TheVariants as reasons
 use Rattle.ojp_grammar.specs.Fields.{kind_of, IsFieldValue, field_text}
 use Rattle.ojp_grammar.specs.Items.{Item, tag, value, spell}
 use Rattle.ojp_grammar.specs.Items as items
 use Rattle.ojp_grammar.specs.Syntax.{Syntax, text, field, both, either, many}
+use Rattle.ojp_grammar.specs.Grammar.{legs_of}
 use Rattle.ojp_grammar.specs.Places.{BeginsMarkup, IsProperPrefix, IsOpenRun}
 
 -- the shape of a table's entry
@@ -18,6 +19,7 @@ syntax_of (Field kind close) = field kind close
 syntax_of (Both' p a q b) = both (syntax_of a) (syntax_of b)
 syntax_of (Either' p a q b) = either (syntax_of a) (syntax_of b)
 syntax_of (Many' low high p a q b) = many low high (syntax_of a) (syntax_of b)
+syntax_of (Legs low high) = legs_of low high
 
 -- the shapes that are open, where the last is the next
 abbrev pub stack_of : List Shape → List Syntax
@@ -59,6 +61,21 @@ leave (field kind close) more = text close ∷ more
 leave (both a b) more = leave a (b ∷ more)
 leave (either a b) more = more
 leave (many low high a b) more = more
+
+-- ---- how many shapes are open
+
+-- how many shapes are open at most, itself among them, until it is read
+abbrev pub depth : Syntax → ℕ
+depth (text n) = 1
+depth (field kind close) = 1
+depth (both a b) = max (depth a + 1) (depth b)
+depth (either a b) = max (depth a) (depth b)
+depth (many low high a b) = max (depth a + 1) (depth b)
+
+-- no more than 16 shapes are open until they are read
+abbrev pub AreShallow : List Syntax → Type 0
+AreShallow [] = Unit {0}
+AreShallow (s ∷ more) = (depth s + length more ≤ 16) × AreShallow more
 
 -- ---- items
 

@@ -4,6 +4,7 @@
 ghost use Rattle.std.specs.Prelude.{◌≡◌, [], ◌∷◌, IfOk, MatchResult};
 ghost use Rattle.ojp_grammar.specs.Folding as folding;
 ghost use Rattle.ojp_grammar.specs.Drafting.{Takes};
+ghost use Rattle.ojp_grammar.specs.Fronts as fronts;
 
 use crate::fields::FieldValue;
 use crate::stacks::{Stack, Unbuilt, keep};
@@ -154,6 +155,13 @@ impl Draft {
             alight_name,
             arrives,
         };
+        keep(&mut self.legs, leg)
+    }
+
+    /// Keeps a leg that was read whole.
+    pub fn keep_leg(&mut self, leg: Leg) -> Result<(), Unbuilt>
+        ensures { Takes (Some (fronts.keep_leg leg self.old)) result self.new }
+    {
         keep(&mut self.legs, leg)
     }
 

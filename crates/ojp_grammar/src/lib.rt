@@ -3,6 +3,7 @@
 
 pub mod draft;
 pub mod fields;
+mod front;
 pub mod laws;
 pub mod machine;
 mod reason_words;

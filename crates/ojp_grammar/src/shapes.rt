@@ -20,6 +20,14 @@ pub enum Shape {
     Either(&'static Shape, &'static Shape),
     /// A shape so many to so many times, and what stands behind them.
     Many(u32, u32, &'static Shape, &'static Shape),
+    /// Legs so many to so many times, and the end of the trip.
+    Legs(u32, u32),
+}
+
+impl Default for Shape {
+    fn default() -> Shape {
+        Shape::Text(END)
+    }
 }
 
 /// The shapes one after another.
@@ -123,8 +131,7 @@ const HALT: Shape = sequence!(
     leaf!(TIMETABLED_TIME, Moment)
 );
 
-const LEG: Shape = element!(
-    TRIP_LEG,
+static BEHIND_TRIP_LEG: Shape = sequence!(
     element!(
         TIMED_LEG,
         sequence!(
@@ -132,7 +139,8 @@ const LEG: Shape = element!(
             element!(LEG_ALIGHT, HALT),
             JOURNEY
         )
-    )
+    ),
+    Shape::Text(TRIP_LEG + 1)
 );
 
 const WHOLE_TRIP: Shape = sequence!(
@@ -141,7 +149,7 @@ const WHOLE_TRIP: Shape = sequence!(
     leaf!(START_TIME, Moment),
     leaf!(END_TIME, Moment),
     leaf!(TRANSFERS, Count),
-    many!(1, 86_401, LEG, TRIP)
+    Shape::Legs(1, 86_401)
 );
 
 const SUBJECT_STOP: Shape = leaf!(SUBJECT, StopRef);
@@ -225,4 +233,11 @@ pub fn delivery() -> &'static Shape
     ensures { syntax_of result.now ≡ grammar.DELIVERY }
 {
     &DELIVERY
+}
+
+/// What a leg has behind its opening text.
+pub fn behind_trip_leg() -> &'static Shape
+    ensures { syntax_of result.now ≡ grammar.BEHIND_TRIP_LEG }
+{
+    &BEHIND_TRIP_LEG
 }

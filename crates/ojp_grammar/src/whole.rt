@@ -15,9 +15,7 @@ pub fn whole(alloc: Global, want: Want, bytes: &[u8]) -> Result<Doc, WholeRefuse
     ensures document { IfOk result (λ doc. IsWanted want doc × Spells doc bytes.now) }
     ensures refused { IfErr result (IsWholeRefused want bytes.now) }
 {
-    let Ok(mut machine) = Machine::new(alloc, want) else {
-        return Err(WholeRefused::NoMemory);
-    };
+    let mut machine = Machine::new(alloc, want);
     let ran = machine.run(bytes);
     let at = machine.at;
     let document = machine.into_document();

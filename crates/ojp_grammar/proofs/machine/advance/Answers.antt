@@ -1,17 +1,13 @@
-use Rattle.std.proofs.Common.{refl}
+use Rattle.std.proofs.Common.{List, ◌∷◌, IfOk, subst}
+use Rattle.ojp_grammar.specs.declared.shapes.Shape.{Shape}
+use Rattle.ojp_grammar.specs.Folding.{Waiting}
 use Rattle.ojp_grammar.specs.Steps.{syntax_of, stack_of}
-use Rattle.ojp_grammar.specs.Folding.{push_value}
-use Rattle.ojp_grammar.proofs.Runs.{advances_text, advances_field}
+use Rattle.ojp_grammar.specs.Machine.{Advances}
 use Rattle.ojp_grammar.proofs.machine.advance.Goals as goal
 
-pub returns-in-Ok-take_text : goal.returns-in-Ok-take_text
-returns-in-Ok-take_text c =
-    advances_text (syntax_of c.args.shape) (stack_of c.args.stack.now.items) (stack_of c.open_behind_text.new.stack.items) c.args.draft.now c.take_text.new.self c.args.bytes.now
-    c.text_of.result.now c.in-Text.n c.text_of.ensures c.in-Text.ensures c.in-Ok.ensures
-    (λ w is. c.in-Ok-take_text.ensures w is)
-
-pub returns-in-Ok-take_value : goal.returns-in-Ok-take_value
-returns-in-Ok-take_value c =
-    advances_field (syntax_of c.args.shape) (stack_of c.args.stack.now.items) (stack_of c.open_behind_field.new.stack.items) c.args.draft.now c.take_value.new.self c.args.bytes.now
-    c.in-Field.len c.in-Field.value c.in-Field.ensures c.in-Ok-open_behind_field.ensures
-    (c.in-Ok-take_value.ensures (push_value c.in-Field.value c.args.draft.now) refl)
+pub returns-in-None : goal.returns-in-None
+returns-in-None c =
+    let P : List Shape → Type 0 = λ items. IfOk c.pass_item.result (λ passed. Advances (syntax_of c.args.shape ∷ stack_of items) c.args.draft.now c.args.bytes.now passed (stack_of c.pass_item.new.stack.items) c.pass_item.new.draft) in
+    let Q : Waiting → Type 0 = λ old. IfOk c.pass_item.result (λ passed. Advances (syntax_of c.args.shape ∷ stack_of c.pass_leg.new.stack.items) old c.args.bytes.now passed (stack_of c.pass_item.new.stack.items) c.pass_item.new.draft) in
+    let stays = rw c.in-None.is at c.in_ok-leg.ensures in
+    subst P stays.0 (subst Q stays.1 c.pass_item.ensures)
