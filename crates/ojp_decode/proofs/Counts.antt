@@ -5,7 +5,7 @@ use Rattle.ojp_grammar.specs.Items.{spell}
 use Rattle.ojp_grammar.specs.Steps.{stack_of}
 use Rattle.ojp_grammar.proofs.Runs.{reading_short}
 use Rattle.ojp_decode.specs.declared.fed.Stage.{Stage}
-use Rattle.ojp_decode.specs.declared.fed.Stage.TheVariants.{Fresh, Reading, Whole, Over}
+use Rattle.ojp_decode.specs.declared.fed.Stage.TheVariants.{Reading, Whole, Over}
 use Rattle.ojp_decode.specs.declared.fed.ReadRefused.TheVariants.{At as Refusal, NoMemory}
 use Rattle.ojp_decode.specs.Progress.{Progress, reading, whole, over, spent}
 use Rattle.ojp_decode.specs.Standing.{HasReadAt}
@@ -20,9 +20,6 @@ Counts (over refused) count = Unit {0}
 Counts spent count = Unit {0}
 
 pub counted : (stage : Stage) (m : Machine) (kept : List ℕ) (progress : Progress) → HasReadAt stage m kept progress → Counts progress (m.at + length kept)
-counted Fresh m kept progress h =
-    let none : length kept ≡ 0 = ap (λ (l : List ℕ). length l) h.1 in
-    subst (λ (p : Progress). Counts p (m.at + length kept)) (sym h.0) (omega (arith, h.2, none), omega (arith, h.2, none))
 counted Reading m kept progress h =
     let w = h.2 in
     let size : length h.0 ≡ m.at + length kept =

@@ -121,6 +121,7 @@ pub reading_more : (want : Want) (at : ℕ) (k : List Syntax) (waiting : Waiting
 reading_more want at k waiting bytes tail more r = record {
   front = r.front;
   reached = at_more (start_of want) bytes r.front k tail more r.reached;
+  shallow = r.shallow;
   place = r.place;
   folded = r.folded;
 }

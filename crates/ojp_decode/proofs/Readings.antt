@@ -9,10 +9,13 @@ use Rattle.ojp_grammar.specs.declared.refusals.Reason.TheVariants.{Truncated}
 use Rattle.ojp_grammar.specs.declared.refusals.Want.{Want}
 use Rattle.ojp_grammar.specs.Folding.{Waiting}
 use Rattle.ojp_grammar.specs.Items.{spell}
-use Rattle.ojp_grammar.specs.Machine.{StopsFor}
+use Rattle.ojp_grammar.specs.Machine.{StopsFor, IsCutAt, StaysCut}
 use Rattle.ojp_grammar.specs.Running.{IsReading, Stands}
 use Rattle.ojp_grammar.specs.Steps.{stack_of}
+use Rattle.ojp_grammar.specs.Syntax.{Syntax}
+use Rattle.ojp_grammar.specs.declared.machine.Cut.{Cut}
 use Rattle.ojp_grammar.specs.Whole.{IsWhole}
+use Rattle.ojp_grammar.proofs.Cutting.{cut_stops}
 use Rattle.ojp_grammar.proofs.Ended.{ended}
 use Rattle.ojp_decode.specs.Feeding.{BeginsNone}
 use Rattle.ojp_decode.specs.declared.fed.Fed.TheVariants as feds
@@ -27,6 +30,7 @@ pub record HasRun (want : Want) (m : Machine) (bytes left : List ℕ) (stop : Op
   pub want_is : m.want ≡ want
   pub stands : Stands m bytes left
   pub stop_is : MatchOption stop (m.stack.items ≡ []) (StopsFor (stack_of m.stack.items) left)
+  pub cut_is : IsCutAt m.cut (stack_of m.stack.items) left
 
 stops_for : (want : Want) (m : Machine) (bytes left : List ℕ) (stop : Option Reason) (reason : Reason) → HasRun want m bytes left stop → stop ≡ Some reason → StopsFor (stack_of m.stack.items) left reason
 stops_for want m bytes left stop reason run is = rw is at run.stop_is
@@ -44,7 +48,7 @@ pub ran_waits : (want : Want) (m : Machine) (bytes left kept piece : List ℕ) (
 ran_waits want m bytes left kept piece stop reason run is cut e =
     let stops = subst (StopsFor (stack_of m.stack.items) left) cut (stops_for want m bytes left stop reason run is) in
     let P : List ℕ → Type 0 = IsWaiting m bytes in
-    let waiting : IsWaiting m bytes left = record { stands = run.stands; stops = stops } in
+    let waiting : IsWaiting m bytes left = record { stands = run.stands; stops = stops; cut = run.cut_is } in
     (run.want_is, subst P e waiting)
 
 -- a refusal is decided, whatever more of the piece there is
@@ -163,13 +167,14 @@ pub slice_stands : (m : Machine) (bytes piece : List ℕ) (passed : ℕ) → Sta
 slice_stands m bytes piece passed r =
     subst (Stands m bytes) (sym (take_all (length piece - passed) (drop passed piece) (omega (arith, length-drop passed piece)))) r
 
-pub slice_run : (want : Want) (m : Machine) (bytes piece : List ℕ) (passed took : ℕ) (stop : Option Reason) → m.want ≡ want → Stands m bytes (drop took (take (length piece - passed) (drop passed piece))) → MatchOption stop (m.stack.items ≡ []) (StopsFor (stack_of m.stack.items) (drop took (take (length piece - passed) (drop passed piece)))) → HasRun want m bytes (drop (passed + took) piece) stop
-slice_run want m bytes piece passed took stop same r stops =
+pub slice_run : (want : Want) (m : Machine) (bytes piece : List ℕ) (passed took : ℕ) (stop : Option Reason) → m.want ≡ want → Stands m bytes (drop took (take (length piece - passed) (drop passed piece))) → MatchOption stop (m.stack.items ≡ []) (StopsFor (stack_of m.stack.items) (drop took (take (length piece - passed) (drop passed piece)))) → IsCutAt m.cut (stack_of m.stack.items) (drop took (take (length piece - passed) (drop passed piece))) → HasRun want m bytes (drop (passed + took) piece) stop
+slice_run want m bytes piece passed took stop same r stops cut =
     let P : List ℕ → Type 0 = λ l. MatchOption stop (m.stack.items ≡ []) (StopsFor (stack_of m.stack.items) l) in
     record {
       want_is = same;
       stands = subst (Stands m bytes) (rest_within piece passed took) r;
       stop_is = subst P (rest_within piece passed took) stops;
+      cut_is = subst (IsCutAt m.cut (stack_of m.stack.items)) (rest_within piece passed took) cut;
     }
 
 -- ---- the ends of a run behind what is kept
@@ -200,3 +205,30 @@ run_decides want m bytes piece left kept room stop reason refused run is other t
     append_assoc bytes (take room piece) (drop room piece) ∙ ap (λ p. bytes ++ p) (take-append-drop room piece) in
     let P : List ℕ → Type 0 = λ b. ReadsOn want b piece (Err refused) m kept in
     subst P all (ran_refused want m (bytes ++ take room piece) left (drop room piece) piece kept stop reason refused run is other told)
+
+-- ---- an item that stays cut
+
+stays_at : (cut : Cut) (k : List Syntax) (kept piece : List ℕ) → IsCutAt (Some cut) k kept → StaysCut cut (length kept) piece → IsCutAt (Some cut) k (kept ++ piece)
+stays_at cut [] kept piece h stays = h
+stays_at cut (s ∷ k) kept piece h stays = stays s kept refl h
+
+-- the machine waits with the piece kept too
+pub waits_on : (m : Machine) (cut : Cut) (bytes kept piece new : List ℕ) → m.cut ≡ Some cut → StaysCut cut (length kept) piece → new ≡ kept ++ piece → IsWaiting m bytes kept → IsWaiting m (bytes ++ piece) new
+waits_on m cut bytes kept piece new is stays e w =
+    let P : Option Cut → Type 0 = λ o. IsCutAt o (stack_of m.stack.items) kept in
+    let Q : Option Cut → Type 0 = λ o. IsCutAt o (stack_of m.stack.items) (kept ++ piece) in
+    let here : IsCutAt (Some cut) (stack_of m.stack.items) (kept ++ piece) = stays_at cut (stack_of m.stack.items) kept piece (subst P is w.cut) stays in
+    let R : List ℕ → Type 0 = IsWaiting m (bytes ++ piece) in
+    let all : IsWaiting m (bytes ++ piece) (kept ++ piece) = record {
+      stands = reading_more m.want m.at (stack_of m.stack.items) m.draft bytes kept piece w.stands;
+      stops = cut_stops cut (stack_of m.stack.items) (kept ++ piece) here;
+      cut = subst Q (sym is) here;
+    } in
+    subst R (sym e) all
+
+-- nothing was fed
+pub first_waits : (m : Machine) (kept : List ℕ) → kept ≡ [] → Stands m [] [] → StopsFor (stack_of m.stack.items) [] Truncated → IsCutAt m.cut (stack_of m.stack.items) [] → IsWaiting m [] kept
+first_waits m kept none stands stops cut =
+    let P : List ℕ → Type 0 = IsWaiting m [] in
+    let waiting : IsWaiting m [] [] = record { stands = stands; stops = stops; cut = cut } in
+    subst P (sym none) waiting

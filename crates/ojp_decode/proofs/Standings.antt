@@ -1,8 +1,7 @@
 -- Where the machine stops: more may come, a document ends, or a refusal is decided.
-use Rattle.std.proofs.Common.{◌≡◌, ◌≢◌, refl, ℕ, ◌≤◌, List, [], ◌∷◌, ◌++◌, length, take, drop, Option, Some, None, Result, Ok, Err, inl, sym, ◌∙◌, ap, subst, arith, append_assoc, take-append-drop, lit<}
+use Rattle.std.proofs.Common.{◌≡◌, ◌≢◌, refl, ℕ, ◌≤◌, List, [], ◌∷◌, ◌++◌, length, take, drop, Option, Some, None, Result, Ok, Err, sym, ◌∙◌, ap, subst, arith, append_assoc, take-append-drop}
 use Rattle.std.specs.Prelude.{Bool, true, false, ◌==◌}
 use Rattle.std.proofs.lemmas.List.{append-nil, append_cancel_right}
-use Rattle.ojp_tables.specs.declared.names.TheConstants.{HEAD}
 use Rattle.ojp_values.specs.declared.documents.Doc.{Doc}
 use Rattle.ojp_grammar.specs.declared.machine.Machine.{Machine}
 use Rattle.ojp_grammar.specs.declared.refusals.Reason.{Reason}
@@ -10,7 +9,7 @@ use Rattle.ojp_grammar.specs.declared.refusals.Reason.TheVariants as reasons
 use Rattle.ojp_grammar.specs.declared.refusals.Want.{Want}
 use Rattle.ojp_grammar.specs.declared.shapes.Shape.{Shape}
 use Rattle.ojp_grammar.specs.Documents.{items}
-use Rattle.ojp_grammar.specs.Folding.{Waiting, nothing}
+use Rattle.ojp_grammar.specs.Folding.{Waiting}
 use Rattle.ojp_grammar.specs.Items.{Item, spell}
 use Rattle.ojp_grammar.specs.Machine.{StopsFor}
 use Rattle.ojp_grammar.specs.Places.{IsRefused}
@@ -22,15 +21,13 @@ use Rattle.ojp_grammar.specs.Whole.{IsWhole}
 use Rattle.ojp_grammar.proofs.Progress.{at_start}
 use Rattle.ojp_grammar.proofs.Ended.{stop_refused, ended}
 use Rattle.ojp_grammar.proofs.Refusal.{no_front, at_trailing}
-use Rattle.ojp_grammar.proofs.Runs.{reading_start}
-use Rattle.ojp_grammar.proofs.Spelled.{text_opens}
 use Rattle.ojp_grammar.proofs.Unique.{at_accepted}
 use Rattle.ojp_grammar.proofs.Wanted.{start_means}
 use Rattle.ojp_decode.specs.Feeding.{BeginsNone, StaysRefused, Awaits, Decides, FeedsOn, trailing}
 use Rattle.ojp_decode.specs.declared.fed.Fed.{Fed}
 use Rattle.ojp_decode.specs.declared.fed.Fed.TheVariants as feds
 use Rattle.ojp_decode.specs.declared.fed.Stage.{Stage}
-use Rattle.ojp_decode.specs.declared.fed.Stage.TheVariants.{Fresh, Reading, Whole, Over}
+use Rattle.ojp_decode.specs.declared.fed.Stage.TheVariants.{Reading, Whole, Over}
 use Rattle.ojp_decode.specs.declared.fed.ReadRefused.{ReadRefused}
 use Rattle.ojp_decode.specs.declared.fed.ReadRefused.TheVariants.{At as Refusal, NoMemory}
 use Rattle.ojp_decode.specs.Progress.{Progress, reading, whole, over, spent}
@@ -74,17 +71,6 @@ begins_none m bytes kept w = none_begins m.want m.at (stack_of m.stack.items) m.
 awaits : (m : Machine) (bytes kept : List ℕ) → IsWaiting m bytes kept → Awaits m.want bytes
 awaits m bytes kept w = record { none = begins_none m bytes kept w; at = m.at; refused = waits m bytes kept w }
 
--- ---- the first byte
-
-start_stops : (want : Want) → StopsFor (start_of want) [] reasons.Truncated
-start_stops want =
-    let opens = text_opens HEAD (lit< tt) in
-    inl (HEAD, refl, (60 ∷ opens.0, opens.1, λ none. cc))
-
--- no bytes are the front of any document
-pub nothing_refused : (want : Want) → IsRefused want [] 0 reasons.Truncated
-nothing_refused want = stop_refused want 0 (start_of want) nothing [] [] reasons.Truncated (reading_start want []) (start_stops want)
-
 -- ---- the end of a document
 
 front_accepted : (want : Want) (at : ℕ) (waiting : Waiting) (bytes tail : List ℕ) → (r : IsReading want at [] waiting bytes tail) → Accepts r.front (start_of want)
@@ -101,7 +87,7 @@ front_alone want at waiting bytes tail own r parts =
     at_accepted (start_of want) all means.plain [] w (start_of want) [] (at_start (start_of want) all means.plain) (front_accepted want at waiting bytes tail r) in
     let own_is : all ≡ own = append-nil (spell w) ∙ append_cancel_right (spell w) own tail (sym r.reached.parts ∙ parts) in
     let P : List ℕ → Type 0 = λ b. At (start_of want) b w [] [] in
-    record { front = w; reached = subst P own_is at; place = r.place; folded = r.folded }
+    record { front = w; reached = subst P own_is at; shallow = r.shallow; place = r.place; folded = r.folded }
 
 pub is_whole : (want : Want) (at : ℕ) (waiting : Waiting) (own : List ℕ) → IsReading want at [] waiting own [] → IsWhole want own
 is_whole want at waiting own r =
@@ -155,11 +141,6 @@ pub reading_feeds : (stage after : Stage) (old m : Machine) (kept new piece : Li
 reading_feeds stage after old m kept new piece fed before at h is reads =
     let here : HasReadAt Reading old kept before = subst (λ (s : Stage). HasReadAt s old kept before) at h in
     from_reading old.want here.0 piece fed after m new before here.1 is (reads here.0 here.2)
-
-pub fresh_feeds : (stage after : Stage) (old m : Machine) (kept new piece : List ℕ) (fed : Result Fed ReadRefused) (before : Progress) → stage ≡ Fresh → HasReadAt stage old kept before → after ≡ stage_of fed → ReadsOn old.want piece piece fed m new → Went before piece fed after m new
-fresh_feeds stage after old m kept new piece fed before at h is reads =
-    let here : HasReadAt Fresh old kept before = subst (λ (s : Stage). HasReadAt s old kept before) at h in
-    from_reading old.want [] piece fed after m new before here.0 is reads
 
 -- behind a whole document more bytes are trailing, whatever follows
 trailing_stays : (want : Want) (bytes piece : List ℕ) → IsWhole want bytes → piece ≢ [] → StaysRefused want (bytes ++ piece) (trailing (length bytes))
@@ -221,15 +202,6 @@ gives_cut stage m kept progress refused at h told =
     let P : Progress → Type 0 = λ p. Gives p (Err refused) in
     let Q : ReadRefused → Type 0 = λ r. Gives (reading m.want here.0) (Err r) in
     subst P (sym here.1) (subst Q (sym told) (refl, waits m here.0 kept here.2))
-
--- the end of the bytes where nothing was fed
-pub gives_nothing : (stage : Stage) (m : Machine) (kept : List ℕ) (progress : Progress) (refused : ReadRefused) → stage ≡ Fresh → HasReadAt stage m kept progress → refused ≡ Refusal (record { at = m.at; reason = reasons.Truncated }) → Gives progress (Err refused)
-gives_nothing stage m kept progress refused at h told =
-    let here : HasReadAt Fresh m kept progress = subst (λ (s : Stage). HasReadAt s m kept progress) at h in
-    let P : Progress → Type 0 = λ p. Gives p (Err refused) in
-    let Q : ReadRefused → Type 0 = λ r. Gives (reading m.want []) (Err r) in
-    let R : ℕ → Type 0 = λ n. IsRefused m.want [] n reasons.Truncated in
-    subst P (sym here.0) (subst Q (sym told) (refl, subst R (sym here.2) (nothing_refused m.want)))
 
 -- the document of the bytes of a whole one
 pub gives_document : (stage : Stage) (m : Machine) (kept : List ℕ) (progress : Progress) (found : Option Doc) (document : Doc) → stage ≡ Whole → HasReadAt stage m kept progress → found ≡ Some document → ((bytes : List ℕ) → Stands m bytes [] → m.stack.items ≡ [] → IsRead m.want bytes found) → Gives progress (Ok document)

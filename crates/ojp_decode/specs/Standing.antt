@@ -4,7 +4,7 @@ use Rattle.ojp_values.specs.declared.documents.Doc.{Doc}
 use Rattle.ojp_grammar.specs.declared.machine.Machine.{Machine}
 use Rattle.ojp_grammar.specs.declared.refusals.Reason.TheVariants.{Truncated}
 use Rattle.ojp_grammar.specs.declared.refusals.Want.{Want}
-use Rattle.ojp_grammar.specs.Machine.{StopsFor}
+use Rattle.ojp_grammar.specs.Machine.{StopsFor, IsCutAt}
 use Rattle.ojp_grammar.specs.Running.{Stands}
 use Rattle.ojp_grammar.specs.Steps.{stack_of}
 use Rattle.ojp_decode.specs.declared.fed.Fed.{Fed}
@@ -12,7 +12,7 @@ use Rattle.ojp_decode.specs.declared.fed.Fed.TheVariants as feds
 use Rattle.ojp_decode.specs.declared.fed.ReadRefused.{ReadRefused}
 use Rattle.ojp_decode.specs.declared.fed.ReadRefused.TheVariants.{At, NoMemory}
 use Rattle.ojp_decode.specs.declared.fed.Stage.{Stage}
-use Rattle.ojp_decode.specs.declared.fed.Stage.TheVariants.{Fresh, Reading, Whole, Over}
+use Rattle.ojp_decode.specs.declared.fed.Stage.TheVariants.{Reading, Whole, Over}
 use Rattle.ojp_decode.specs.Progress.{Progress, reading, whole, over, spent}
 use Rattle.ojp_decode.specs.Feeding.{Decides, FeedsOn, FeedsBehind, IsCut, IsRead}
 
@@ -26,6 +26,7 @@ pub record ReaderView : Type 0 where
 pub record IsWaiting (machine : Machine) (bytes kept : List ℕ) : Type 0 where
   pub stands : Stands machine bytes kept
   pub stops : StopsFor (stack_of machine.stack.items) kept Truncated
+  pub cut : IsCutAt machine.cut (stack_of machine.stack.items) kept
 
 -- the machine is at the end of a document that all the bytes spell
 pub record IsEnded (machine : Machine) (bytes kept : List ℕ) : Type 0 where
@@ -35,7 +36,6 @@ pub record IsEnded (machine : Machine) (bytes kept : List ℕ) : Type 0 where
 
 -- how far a reader has come with what it was fed
 abbrev pub HasReadAt : Stage → Machine → List ℕ → Progress → Type 0
-HasReadAt Fresh machine kept progress = (progress ≡ reading machine.want []) × (kept ≡ []) × (machine.at ≡ 0)
 HasReadAt Reading machine kept progress = (bytes : List ℕ) × (progress ≡ reading machine.want bytes) × IsWaiting machine bytes kept
 HasReadAt Whole machine kept progress = (bytes : List ℕ) × (progress ≡ whole machine.want bytes) × IsEnded machine bytes kept
 HasReadAt (Over (At refused)) machine kept progress = progress ≡ over refused

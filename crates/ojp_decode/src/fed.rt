@@ -26,8 +26,6 @@ pub enum ReadRefused {
 /// Where a reader stands.
 #[derive(Clone, Copy, Debug, PartialEq, Eq)]
 pub enum Stage {
-    /// Nothing was fed, and the machine is still to be made.
-    Fresh,
     Reading,
     Whole,
     Over(ReadRefused),

@@ -7,8 +7,7 @@ ghost use Rattle.ojp_decode.specs.Standing.{HasRead, Feeds, Gives, KeepsFor, IsW
 
 use crate::fed::{Fed, ReadRefused, Stage};
 use arrayvec::ArrayVec;
-use ojp_grammar::draft::Draft;
-use ojp_grammar::machine::Machine;
+use ojp_grammar::machine::{Machine, stays_cut};
 use ojp_grammar::refusals::{Reason, Refused, Want};
 use ojp_values::documents::Doc;
 use std::alloc::Global;
@@ -21,7 +20,6 @@ const MOST: usize = 513;
 /// piece cut, and of the items before the values that they give.
 #[derive(Drop)]
 pub struct Reader {
-    alloc: Global,
     stage: Stage,
     machine: Machine,
     kept: ArrayVec<u8, MOST>,
@@ -100,8 +98,40 @@ fn read_piece(
     Ok(Fed::More)
 }
 
+/// Keeps the piece too, where the item that was cut is known to stay cut: no byte of it is looked at anew.
+fn keep_cut(machine: &Machine, kept: &mut ArrayVec<u8, MOST>, piece: &[u8]) -> bool
+    ensures { MatchBool result ((bytes : List ℕ) → IsWaiting machine.now bytes kept.old.items → IsWaiting machine.now (bytes ++ piece.now) kept.new.items) (kept.new.items ≡ kept.old.items) }
+{
+    let Some(cut) = machine.cut else {
+        return false;
+    };
+    if !stays_cut(cut, kept.len(), piece) {
+        return false;
+    }
+    match kept.try_extend_from_slice(piece) {
+        Ok(()) => true,
+        Err(_) => false,
+    }
+}
+
 /// Reads on with a piece behind the bytes that are kept.
 fn read_on(
+    machine: &mut Machine,
+    kept: &mut ArrayVec<u8, MOST>,
+    piece: &[u8],
+) -> Result<Fed, ReadRefused>
+    requires { (bytes : List ℕ) × IsWaiting machine.old bytes kept.old.items }
+    ensures { (bytes : List ℕ) → IsWaiting machine.old bytes kept.old.items → ReadsOn machine.old.want (bytes ++ piece.now) piece.now result machine.new kept.new.items }
+{
+    if keep_cut(machine, kept, piece) {
+        Ok(Fed::More)
+    } else {
+        read_behind(machine, kept, piece)
+    }
+}
+
+/// The same where the item that was cut may be whole with the piece.
+fn read_behind(
     machine: &mut Machine,
     kept: &mut ArrayVec<u8, MOST>,
     piece: &[u8],
@@ -136,39 +166,14 @@ fn read_on(
     read_piece(machine, kept, piece, ran.took - before)
 }
 
-/// Reads the first piece.
-fn read_first(
-    alloc: Global,
-    machine: &mut Machine,
-    kept: &mut ArrayVec<u8, MOST>,
-    piece: &[u8],
-) -> Result<Fed, ReadRefused>
-    requires { kept.old.items ≡ [] }
-    ensures { ReadsOn machine.old.want piece.now piece.now result machine.new kept.new.items }
-{
-    match Machine::new(alloc, machine.want) {
-        Ok(made) => {
-            *machine = made;
-            read_piece(machine, kept, piece, 0)
-        }
-        Err(_) => Err(ReadRefused::NoMemory),
-    }
-}
-
 impl Reader {
     /// Before the first byte. Takes no memory.
     pub fn new(alloc: Global, want: Want) -> Reader
         ensures { HasRead result (reading want []) }
     {
         Reader {
-            alloc,
-            stage: Stage::Fresh,
-            machine: Machine {
-                want,
-                at: 0,
-                stack: Vec::new(alloc),
-                draft: Draft::new(alloc),
-            },
+            stage: Stage::Reading,
+            machine: Machine::new(alloc, want),
             kept: ArrayVec::new(),
         }
     }
@@ -179,7 +184,7 @@ impl Reader {
     {
         match self.stage {
             Stage::Reading => self.kept.len(),
-            Stage::Fresh | Stage::Whole | Stage::Over(_) => 0,
+            Stage::Whole | Stage::Over(_) => 0,
         }
     }
 
@@ -200,11 +205,6 @@ impl Reader {
                 self.stage = Stage::Over(refused);
                 Err(refused)
             }
-            Stage::Fresh => {
-                let fed = read_first(self.alloc, &mut self.machine, &mut self.kept, piece);
-                self.stage = stage_after(fed);
-                fed
-            }
             Stage::Reading => {
                 let fed = read_on(&mut self.machine, &mut self.kept, piece);
                 self.stage = stage_after(fed);
@@ -223,7 +223,6 @@ impl Reader {
         ensures { (progress : Progress) → HasRead self progress → Gives progress result }
     {
         let Reader {
-            alloc: _,
             stage,
             machine,
             kept: _,
@@ -232,7 +231,6 @@ impl Reader {
         let document = machine.into_document();
         match stage {
             Stage::Over(refused) => Err(refused),
-            Stage::Fresh => Err(refused(at, Reason::Truncated)),
             Stage::Reading => Err(refused(at, Reason::Truncated)),
             Stage::Whole => match document {
                 Some(document) => Ok(document),

@@ -9,7 +9,7 @@ pub returns-then-not-is_truncated : goal.returns-then-not-is_truncated
 returns-then-not-is_truncated c bytes stands =
     let run : HasRun c.args.machine.now.want c.run.new.self bytes (drop (c.args.passed + c.in-Ok.ran.took) c.args.piece.now) c.in-Ok.ran.stop =
     slice_run c.args.machine.now.want c.run.new.self bytes c.args.piece.now c.args.passed c.in-Ok.ran.took c.in-Ok.ran.stop c.in-Ok.ensures.want
-    (c.in-Ok.ensures.stands bytes (slice_stands c.args.machine.now bytes c.args.piece.now c.args.passed stands)) c.in-Ok.ensures.stop in
+    (c.in-Ok.ensures.stands bytes (slice_stands c.args.machine.now bytes c.args.piece.now c.args.passed stands)) c.in-Ok.ensures.stop c.in-Ok.ensures.cut in
     ran_refused_here c.args.machine.now.want c.run.new.self bytes (drop (c.args.passed + c.in-Ok.ran.took) c.args.piece.now) c.args.piece.now c.args.kept.now.items c.in-Ok.ran.stop c.in-Some.reason c.refused.result
     run c.in-Some.is c.if-not-is_truncated.ensures c.refused.ensures
 
@@ -17,7 +17,7 @@ pub unreachable-requires : goal.unreachable-requires
 unreachable-requires c =
     let run : HasRun c.args.machine.now.want c.run.new.self c.requires.stands.0 (drop (c.args.passed + c.in-Ok.ran.took) c.args.piece.now) c.in-Ok.ran.stop =
     slice_run c.args.machine.now.want c.run.new.self c.requires.stands.0 c.args.piece.now c.args.passed c.in-Ok.ran.took c.in-Ok.ran.stop c.in-Ok.ensures.want
-    (c.in-Ok.ensures.stands c.requires.stands.0 (slice_stands c.args.machine.now c.requires.stands.0 c.args.piece.now c.args.passed c.requires.stands.1)) c.in-Ok.ensures.stop in
+    (c.in-Ok.ensures.stands c.requires.stands.0 (slice_stands c.args.machine.now c.requires.stands.0 c.args.piece.now c.args.passed c.requires.stands.1)) c.in-Ok.ensures.stop c.in-Ok.ensures.cut in
     let used = c.args.passed + c.in-Ok.ran.took in
     let short = ran_short c.args.machine.now.want c.run.new.self c.requires.stands.0 (drop used c.args.piece.now) c.in-Ok.ran.stop c.in-Some.reason run c.in-Some.is c.if-not-is_truncated.ensures in
     let size : length (take (length c.args.piece.now - used) (drop used c.args.piece.now)) ≡ length c.args.piece.now - used =
