@@ -25,3 +25,4 @@ pub mod ReadFacts
 pub mod ExampleFacts
 pub mod LegalFacts
 pub mod DayFacts
+pub mod SaidFacts

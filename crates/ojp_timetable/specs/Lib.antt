@@ -19,3 +19,4 @@ pub mod GatewayAnswers
 pub mod Examples
 pub mod Bounds
 pub mod TextLaws
+pub mod SaidLines

@@ -3,6 +3,7 @@
 ghost use Rattle.ojp_timetable.specs.Bounds.{AnswersAreBounded};
 ghost use Rattle.ojp_timetable.specs.Examples.{ChangeIsExact, DayIsExact, FaultsAreNamed, OutAndBackIsNone, PointsAreListed, RideIsAJourney};
 ghost use Rattle.ojp_timetable.specs.Journeys.{LegsAreBounded};
+ghost use Rattle.ojp_timetable.specs.SaidLines.{AboveIsAsSaid, TablesAreAsSaid};
 ghost use Rattle.ojp_timetable.specs.Stepwise.{FormsAgree};
 ghost use Rattle.ojp_timetable.specs.TextLaws.{DaysAreSpelled, PointsAreWell, RefusalIsOne, TableIsOne, TextIsNotRefused};
 
@@ -76,4 +77,15 @@ pub fn points_are_listed()
 /// The days of services are spelled as those of documents are.
 pub fn days_are_spelled()
     ensures { DaysAreSpelled }
+{}
+
+/// The places, services and journeys of a timetable are those that the lines of its text declare, in
+/// their order, each journey with the calls behind it.
+pub fn tables_are_as_said()
+    ensures { TablesAreAsSaid }
+{}
+
+/// A place, a service or a journey stands above a line exactly where a line above declares it.
+pub fn above_is_as_said()
+    ensures { AboveIsAsSaid }
 {}
