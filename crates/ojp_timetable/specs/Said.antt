@@ -7,6 +7,7 @@ use Rattle.ojp_values.specs.Dates.{day_text}
 use Rattle.ojp_zones.specs.Zones.{zone_of}
 use Rattle.ojp_zones.specs.declared.zone.Zone.{Zone as ZoneValue}
 use Rattle.ojp_timetable.specs.Fields.{fields_of, joined}
+use Rattle.ojp_timetable.specs.Tables.{Call}
 use Rattle.ojp_timetable.specs.declared.lines.Line.{Line}
 use Rattle.ojp_timetable.specs.declared.lines.Line.TheVariants as lines
 use Rattle.ojp_timetable.specs.declared.lines.Open.{Open}
@@ -98,6 +99,11 @@ call_said stop arrives departs =
     valued (is_stop_ref stop && is_offset arrives && is_offset departs)
     (lines.Call (record { stop = stop; arrives = offset arrives; departs = offset departs }))
 
+-- what a call line says, as what a line says
+abbrev pub called : Result Call TableReason → Said
+called (Ok call) = Ok (lines.Call call)
+called (Err reason) = Err reason
+
 -- ---- the form of a line
 
 -- a declaration may stand here: no journey is open
@@ -154,6 +160,15 @@ entry_fields region left (Some word) fields = word_fields region left word field
 abbrev pub entry_said : Text → Open → List Text → Said
 entry_said region left [] = Err LineForm
 entry_said region left (word ∷ fields) = entry_fields region left (word_of word) fields
+
+-- the first field is the word of a call
+abbrev pub begins_call : List Text → Bool
+begins_call [] = false
+begins_call (word ∷ fields) = same word (codes "call")
+
+-- the line begins with the word of a call
+unfoldable pub is_call_line : Text → Bool
+is_call_line text = begins_call (fields_of text)
 
 -- line 1
 abbrev pub header_said : Text → Said

@@ -1,13 +1,17 @@
 //! The lines above the next one.
-ghost use Rattle.std.specs.Prelude.{◌≡◌, ◌+◌, ◌<◌, ◌≤◌, ◌^◌, None, false, length, OnOk, IfOk, IfErr};
+ghost use Rattle.std.specs.Prelude.{◌≡◌, ◌+◌, ◌<◌, ◌≤◌, ◌^◌, None, false, true, length, OnOk, IfOk, IfErr};
+ghost use Rattle.ojp_timetable.specs.Fields.{body};
+ghost use Rattle.ojp_timetable.specs.Runs.{IsOffset};
+ghost use Rattle.ojp_timetable.specs.Said.{called, is_call_line};
 ghost use Rattle.ojp_zones.specs.Noons.{IsZone};
 
-use crate::checks::first_failing;
+use crate::calls::Call;
+use crate::checks::{first_failing, first_failing_of_call};
 use crate::draft::Draft;
 use crate::fields::body;
 use crate::lines::{Line, Open, TableReason};
 use crate::refusals::LineRefused;
-use crate::said::{is_closed, left_open, read_said};
+use crate::said::{is_call_line, is_closed, left_by, left_open, read_call_line, read_said};
 use std::alloc::Global;
 use std::marker::Model;
 
@@ -36,7 +40,7 @@ impl Model for Above {
 
 impl Above {
     ghost use Rattle.ojp_timetable.specs.Lines.{IsWellLine, after_line, no_lines};
-    ghost use Rattle.ojp_timetable.specs.WellContents.{AreWholeBut, IsWellAbove, IsWellContents, MayStand, Passes};
+    ghost use Rattle.ojp_timetable.specs.WellContents.{AreWholeBut, GoesOnFrom, IsWellAbove, IsWellContents, MayStand, Passes};
     ghost use Rattle.ojp_timetable.specs.Checks.{is_cut, is_long, read_line};
     ghost use Rattle.ojp_timetable.specs.TableText.{reason_of, with_line};
     ghost use Rattle.ojp_timetable.specs.Refusals.{IsLineRefusal, left_after};
@@ -92,9 +96,50 @@ impl Above {
         }
     }
 
-    /// Takes the line. A line that fails a check leaves all as it was; where there is no memory for a
-    /// line, all lines are forgotten.
-    pub fn take(&mut self, alloc: Global, text: &[u8]) -> Result<(), LineRefused>
+    // The call that the line says, or the first check that it fails.
+    #[tactic(auto, unfolding(crate::specs::Checks::read_line))]
+    fn read_call(&self, text: &[u8]) -> Result<Call, TableReason>
+        requires below { 3 ≤ self.now.lines }
+        requires call { is_call_line (body text.now) ≡ true }
+        ensures value { called result ≡ read_line self.now text.now }
+        ensures within { IfOk result (λ call. IsOffset call.arrives × IsOffset call.departs) }
+        ensures stands { IfOk result (GoesOnFrom self.now.left) }
+        ensures passes { IfOk result (λ call. Passes self.now.contents self.now.left (Line.Call call)) }
+        ensures short { OnOk result (self.now.bytes + length text.now ≤ BYTES) }
+    {
+        let call = read_call_line(&self.left, body(text))?;
+        match first_failing_of_call(&self.draft, &self.left, self.is_long(text), &call) {
+            None => Ok(call),
+            Some(reason) => Err(reason),
+        }
+    }
+
+    // Takes a line of a call.
+    fn take_call(&mut self, alloc: Global, text: &[u8]) -> Result<(), LineRefused>
+        requires room { self.old.lines + 1 < 2 ^ 64 }
+        requires below { 3 ≤ self.old.lines }
+        requires call { is_call_line (body text.now) ≡ true }
+        ensures taken { OnOk result (self.new ≡ with_line self.old text.now) }
+        ensures passed { OnOk result (reason_of (read_line self.old text.now) ≡ None) }
+        ensures refused { IfErr result (IsLineRefusal (read_line self.old text.now)) }
+        ensures left { IfErr result (λ refused. self.new ≡ left_after self.old refused) }
+    {
+        let call = match self.read_call(text) {
+            Ok(call) => call,
+            Err(reason) => return Err(LineRefused::Reason(reason)),
+        };
+        let Ok(()) = self.draft.add_call(&call) else {
+            *self = Above::new(alloc);
+            return Err(LineRefused::NoMemory);
+        };
+        self.lines += 1;
+        self.bytes += text.len() as u64;
+        self.left = left_by(call.departs);
+        Ok(())
+    }
+
+    // Takes a line of any kind.
+    fn take_line(&mut self, alloc: Global, text: &[u8]) -> Result<(), LineRefused>
         requires { self.old.lines + 1 < 2 ^ 64 }
         ensures taken { OnOk result (self.new ≡ with_line self.old text.now) }
         ensures passed { OnOk result (reason_of (read_line self.old text.now) ≡ None) }
@@ -113,6 +158,21 @@ impl Above {
         self.bytes += text.len() as u64;
         self.left = left_open(&line);
         Ok(())
+    }
+
+    /// Takes the line. A line that fails a check leaves all as it was; where there is no memory for a
+    /// line, all lines are forgotten.
+    pub fn take(&mut self, alloc: Global, text: &[u8]) -> Result<(), LineRefused>
+        requires { self.old.lines + 1 < 2 ^ 64 }
+        ensures taken { OnOk result (self.new ≡ with_line self.old text.now) }
+        ensures passed { OnOk result (reason_of (read_line self.old text.now) ≡ None) }
+        ensures refused { IfErr result (IsLineRefusal (read_line self.old text.now)) }
+        ensures left { IfErr result (λ refused. self.new ≡ left_after self.old refused) }
+    {
+        if self.lines >= 3 && is_call_line(body(text)) {
+            return self.take_call(alloc, text);
+        }
+        self.take_line(alloc, text)
     }
 
     /// What the lines declare; takes no memory.

@@ -199,3 +199,30 @@ pub fn first_failing(draft: &Draft, left: &Open, is_long: bool, line: &Line) -> 
     }
     None
 }
+
+/// The first check that a call fails, as `first_failing` says it of its line.
+#[tactic(auto, unfolding(crate::specs::Checks::is_foreign, crate::specs::Checks::is_doubled, crate::specs::Checks::lacks_stop, crate::specs::Checks::lacks_service, crate::specs::Checks::is_falling, crate::specs::Checks::is_full))]
+pub fn first_failing_of_call(
+    draft: &Draft,
+    left: &Open,
+    is_long: bool,
+    call: &Call,
+) -> Option<TableReason>
+    ensures value { result ≡ first_failing (checks draft.now left.now is_long (Line.Call call.now)) }
+    ensures passes { result ≡ None → Passes draft.now left.now (Line.Call call.now) }
+    ensures short { result ≡ None → is_long ≡ false }
+{
+    if is_stop_elsewhere(draft.region_text(), &call.stop) {
+        return Some(TableReason::ForeignStop);
+    }
+    if !draft.has_place(&call.stop) {
+        return Some(TableReason::UnknownStop);
+    }
+    if falls_from(departed(left), call) {
+        return Some(TableReason::FallingTimes);
+    }
+    if draft.calls() >= CALLS || is_long {
+        return Some(TableReason::Limit);
+    }
+    None
+}

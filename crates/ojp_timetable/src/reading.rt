@@ -1,5 +1,5 @@
 //! Reading the lines of a timetable.
-ghost use Rattle.std.specs.Prelude.{◌≡◌, ◌<◌, ◌≤◌, ◌+◌, ◌++◌, ◌∷◌, ◌==◌, List, ℕ, true, length, position, OnOk, IfErr};
+ghost use Rattle.std.specs.Prelude.{◌≡◌, ◌<◌, ◌≤◌, ◌+◌, ◌++◌, ◌∷◌, List, ℕ, true, length, OnOk, IfErr};
 ghost use Rattle.ojp_timetable.specs.Lines.{no_lines};
 ghost use Rattle.ojp_timetable.specs.Said.{is_closed};
 ghost use Rattle.ojp_timetable.specs.TableText.{ArePassed, above_of, lines_of};
@@ -8,13 +8,8 @@ ghost use Rattle.ojp_timetable.specs.Refusals.{IsRefusal, refusal_of};
 use crate::above::Above;
 use crate::lines::TableReason;
 use crate::refusals::{LineRefused, TableRefused};
+use memchr::memchr;
 use std::alloc::Global;
-
-fn first_feed(text: &[u8]) -> Option<usize>
-    ensures { result ≡ position (λ b. b == 10) text.now }
-{
-    text.iter().position(|b| *b == b'\n')
-}
 
 // The first line with its line feed, and the text behind it.
 fn split_line(text: &[u8]) -> (&[u8], &[u8])
@@ -22,7 +17,7 @@ fn split_line(text: &[u8]) -> (&[u8], &[u8])
     ensures lines { lines_of text.now ≡ result.0.now ∷ lines_of result.1.now }
     ensures shorter { length result.1.now < length text.now }
 {
-    match first_feed(text) {
+    match memchr(b'\n', text) {
         Some(end) => text.split_at(end + 1),
         None => (text, b""),
     }

@@ -1,12 +1,12 @@
 //! Reading what a line says.
-ghost use Rattle.std.specs.Prelude.{◌≡◌, ◌≤◌, ◌↔◌, true, false, IsTrue, IsSome, IfSome, MatchOption, IfOk, ◌∷◌, []};
+ghost use Rattle.std.specs.Prelude.{◌≡◌, ◌≤◌, ◌↔◌, true, false, IsTrue, IsSome, IfSome, MatchOption, IfOk, ◌∷◌, [], List, ℕ};
 ghost use Rattle.std.specs.List.{list_all};
 ghost use Rattle.ojp_values.specs.Texts.{same};
-ghost use Rattle.ojp_timetable.specs.Lines.{IsWellLine, left_open};
+ghost use Rattle.ojp_timetable.specs.Lines.{IsWellLine, left_by, left_open};
 ghost use Rattle.ojp_timetable.specs.Runs.{IsOffset};
-ghost use Rattle.ojp_timetable.specs.WellContents.{MayStand, MayStandClosed};
+ghost use Rattle.ojp_timetable.specs.WellContents.{GoesOnFrom, MayStand, MayStandClosed};
 ghost use Rattle.ojp_timetable.specs.Fields.{fields_of, IsNotThree, IsNotTwo};
-ghost use Rattle.ojp_timetable.specs.Said.{are_marks, call_fields, call_said, day_of, entry_said, header_said, is_closed, is_dash, is_mark, is_offset, journey_fields, journey_said, marks_of, may_call, neighbour_fields, neighbour_said, offset, place_fields, place_said, region_said, said, service_fields, service_said, word_fields, zone_said};
+ghost use Rattle.ojp_timetable.specs.Said.{are_marks, call_fields, call_said, called, day_of, entry_said, header_said, is_call_line, is_closed, is_dash, is_mark, is_offset, journey_fields, journey_said, marks_of, may_call, neighbour_fields, neighbour_said, offset, place_fields, place_said, region_said, said, service_fields, service_said, word_fields, zone_said};
 
 use crate::calls::Call;
 use crate::fields::Fields;
@@ -183,9 +183,9 @@ fn read_offset(text: &[u8]) -> Option<Option<u32>>
 }
 
 // A call with its arrival and its departure.
-fn read_call(stop: &[u8], arrives: &[u8], departs: &[u8]) -> Result<Line, TableReason>
-    ensures value { result ≡ call_said stop.now arrives.now departs.now }
-    ensures well { IfOk result (IsWellLine 3) }
+fn read_call(stop: &[u8], arrives: &[u8], departs: &[u8]) -> Result<Call, TableReason>
+    ensures value { called result ≡ call_said stop.now arrives.now departs.now }
+    ensures within { IfOk result (λ call. IsOffset call.arrives × IsOffset call.departs) }
 {
     let Some(stop) = StopRef::from_bytes(stop) else {
         return Err(TableReason::Value);
@@ -196,11 +196,11 @@ fn read_call(stop: &[u8], arrives: &[u8], departs: &[u8]) -> Result<Line, TableR
     let Some(departs) = read_offset(departs) else {
         return Err(TableReason::Value);
     };
-    Ok(Line::Call(Call {
+    Ok(Call {
         stop,
         arrives,
         departs,
-    }))
+    })
 }
 
 /// Whether a declaration may stand here.
@@ -222,10 +222,17 @@ pub fn left_open(line: &Line) -> Open
         Line::Header | Line::Region(_) | Line::Zone(_) => Open::Nothing,
         Line::Place(_, _, _) | Line::Neighbour(_, _) | Line::Service(_, _) => Open::Nothing,
         Line::Journey(_, _, _) => Open::Begun,
-        Line::Call(call) => match call.departs {
-            None => Open::Nothing,
-            Some(departs) => Open::Since(departs),
-        },
+        Line::Call(call) => left_by(call.departs),
+    }
+}
+
+/// What a call with this departure leaves open.
+pub fn left_by(departs: Option<u32>) -> Open
+    ensures { result ≡ left_by departs }
+{
+    match departs {
+        None => Open::Nothing,
+        Some(departs) => Open::Since(departs),
     }
 }
 
@@ -311,10 +318,10 @@ fn read_journey_fields(fields: &mut Fields<'_>) -> Result<Line, TableReason>
 }
 
 // The fields behind `call`.
-fn read_call_fields(left: &Open, fields: &mut Fields<'_>) -> Result<Line, TableReason>
-    ensures value { result ≡ call_fields left.now fields.old }
-    ensures well { IfOk result (IsWellLine 3) }
-    ensures stands { IfOk result (MayStand left.now) }
+fn read_call_fields(left: &Open, fields: &mut Fields<'_>) -> Result<Call, TableReason>
+    ensures value { called result ≡ call_fields left.now fields.old }
+    ensures within { IfOk result (λ call. IsOffset call.arrives × IsOffset call.departs) }
+    ensures stands { IfOk result (GoesOnFrom left.now) }
 {
     match three(fields) {
         Some((stop, arrives, departs)) => {
@@ -325,6 +332,40 @@ fn read_call_fields(left: &Open, fields: &mut Fields<'_>) -> Result<Line, TableR
             }
         }
         None => Err(TableReason::LineForm),
+    }
+}
+
+/// Whether the line begins with the word of a call.
+#[tactic(auto, unfolding(crate::specs::Said::is_call_line))]
+pub fn is_call_line(line: &[u8]) -> bool
+    ensures { result ≡ is_call_line line.now }
+{
+    let mut fields = Fields::new(line);
+    match fields.next() {
+        None => false,
+        Some(word) => is_same(word, b"call"),
+    }
+}
+
+/// The call of a line below the third that begins with its word.
+pub fn read_call_line(left: &Open, line: &[u8]) -> Result<Call, TableReason>
+    requires { is_call_line line.now ≡ true }
+    ensures value { (region : List ℕ) → called result ≡ entry_said region left.now (fields_of line.now) }
+    ensures within { IfOk result (λ call. IsOffset call.arrives × IsOffset call.departs) }
+    ensures stands { IfOk result (GoesOnFrom left.now) }
+{
+    let mut fields = Fields::new(line);
+    let _ = fields.next();
+    read_call_fields(left, &mut fields)
+}
+
+// A call as a line.
+fn call_line(read: Result<Call, TableReason>) -> Result<Line, TableReason>
+    ensures { result ≡ called read }
+{
+    match read {
+        Ok(call) => Ok(Line::Call(call)),
+        Err(reason) => Err(reason),
     }
 }
 
@@ -340,7 +381,7 @@ fn read_word_fields(
     ensures stands { IfOk result (MayStand left.now) }
 {
     if word == Word::Call {
-        return read_call_fields(left, fields);
+        return call_line(read_call_fields(left, fields));
     }
     if !is_closed(left) {
         return Err(TableReason::LineForm);

@@ -5,9 +5,9 @@ use Rattle.ojp_timetable.proofs.reading.split_line.Goals as goal
 
 pub returns-in-Some-clause-lines : goal.returns-in-Some-clause-lines
 returns-in-Some-clause-lines c =
-    lines_of-at c.args.text.now c.in-Some.end (sym c.first_feed.ensures ∙ c.in-Some.is)
+    lines_of-at c.args.text.now c.in-Some.end c.in-Some.ensures
     ∙ (λ i. sym c.split_at.ensures.front i ∷ lines_of (sym c.split_at.ensures.back i))
 
 pub returns-in-None-clause-lines : goal.returns-in-None-clause-lines
 unfolding lines_of
-returns-in-None-clause-lines c = lines_of-last c.args.text.now c.requires (sym c.first_feed.ensures ∙ c.in-None.is)
+returns-in-None-clause-lines c = lines_of-last c.args.text.now c.requires c.in-None.ensures

@@ -5,7 +5,7 @@ use Rattle.ojp_timetable.specs.Lines.{Above, IsWellLine, grown}
 use Rattle.ojp_timetable.specs.WellContents.{IsWellAbove, MayStand, Passes}
 use Rattle.ojp_timetable.specs.declared.lines.Open.{Open}
 use Rattle.ojp_timetable.proofs.WellFacts.{above_keeps}
-use Rattle.ojp_timetable.proofs.above.Above.take.Goals as goal
+use Rattle.ojp_timetable.proofs.above.Above.take_line.Goals as goal
 
 pub invariant_of-self-2 : goal.invariant_of-self-2
 invariant_of-self-2 c =
