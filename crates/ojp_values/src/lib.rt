@@ -29,6 +29,3 @@ pub use numbers::{read_duration, read_number};
 pub use replies::{Delivery, EventsReply, Fault, MultiReply, PointsReply, TripReply, TripResult};
 pub use texts::{Code, Label, Name, StopRef};
 pub use trips::{Event, Leg, Neighbour, Point, Trip};
-
-#[cfg(test)]
-mod tests;
