@@ -1,6 +1,6 @@
 -- What lines declare is what they say, one after another.
-use Rattle.std.proofs.Common.{◌≡◌, ℕ, suc, ◌+◌, ◌<◌, ◌==◌, Bool, true, false, not, ◌||◌, cond, true≢false, nat_lt, List, [], ◌∷◌, ◌++◌, length, map, fold, refl, sym, ◌∙◌, ap, subst, arith, inl, inr, append_assoc, append-nil, length-append}
-use Rattle.std.specs.Prelude.{Option, Some, None, Ok, Err, position, unwrap_or, IsTrue}
+use Rattle.std.proofs.Common.{◌≡◌, ℕ, suc, ◌+◌, ◌<◌, Bool, true, false, not, ◌||◌, cond, true≢false, nat_lt, List, [], ◌∷◌, ◌++◌, length, fold, refl, sym, ◌∙◌, ap, subst, arith, inl, inr, append_assoc, append-nil, length-append}
+use Rattle.std.specs.Prelude.{Option, Some, None, Ok, Err, position, unwrap_or}
 use Rattle.std.specs.List.{list_any, prefix_len}
 use Rattle.std.proofs.Math.Dec.{eqb}
 use Rattle.std.proofs.lemmas.Bool.{lt-ltb, eqb-true, cases_Bool}
@@ -13,8 +13,8 @@ use Rattle.ojp_timetable.specs.Lines.{Above, after_line, grown, no_lines}
 use Rattle.ojp_timetable.specs.Said.{Said, said}
 use Rattle.ojp_timetable.specs.Fields.{body}
 use Rattle.ojp_timetable.specs.Checks.{checked, checks, first_failing, is_doubled, is_falling, is_foreign, is_full, is_long, lacks_service, lacks_stop, read_line, verdict}
-use Rattle.ojp_timetable.specs.TableText.{IsText, above_of, contents_of, lines_of, with_line, with_said}
-use Rattle.ojp_timetable.specs.SaidLines.{AboveIsAsSaid, IsAsSaid, StandsAsSaid, TablesAreAsSaid, calls_behind, journeys_said, number_among, places_said, said_first, say, say_below, services_said}
+use Rattle.ojp_timetable.specs.TableText.{above_of, lines_of, with_line, with_said}
+use Rattle.ojp_timetable.specs.SaidLines.{AboveIsAsSaid, TablesAreAsSaid, calls_behind, journeys_said, number_among, places_said, said_first, say, say_below, services_said}
 use Rattle.ojp_timetable.specs.declared.lines.Dates.{Dates}
 use Rattle.ojp_timetable.specs.declared.lines.Line.{Line}
 use Rattle.ojp_timetable.specs.declared.lines.Line.TheVariants as lines

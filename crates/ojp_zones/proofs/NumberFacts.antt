@@ -1,6 +1,6 @@
 -- Numbers by their digits and by their decimal texts.
-use Rattle.std.proofs.Common.{◌≡◌, ℕ, zero, suc, ◌+◌, ◌*◌, ◌-◌, ◌≤◌, ◌<◌, ◌^◌, ◌==◌, ◌&&◌, ◌||◌, Bool, true, false, cond, not, IsTrue, true≢false, List, [], ◌∷◌, length, get_or, nat_le, refl, sym, ◌∙◌, ap, subst, arith, fold, lit<, inl, inr}
-use Rattle.std.specs.Prelude.{Option, Some, None}
+use Rattle.std.proofs.Common.{◌≡◌, ℕ, zero, suc, ◌-◌, ◌≤◌, ◌<◌, ◌^◌, ◌==◌, ◌&&◌, ◌||◌, Bool, true, false, not, true≢false, List, [], ◌∷◌, length, get_or, refl, sym, ◌∙◌, ap, subst, arith, fold, lit<, inl, inr}
+use Rattle.std.specs.Prelude.{Some, None}
 use Rattle.std.specs.List.{list_all}
 use Rattle.std.specs.Char.{is_ascii_digit}
 use Rattle.std.specs.Fmt.{decimal}
@@ -9,7 +9,7 @@ use Rattle.std.proofs.lemmas.Fmt.{decimal-digits_value, decimal_digit, decimal_i
 use Rattle.std.proofs.lemmas.Str.Parse.{FoldsDigits, IsDigitsTest, IsNumeralModel, numerals_by_fold}
 use Rattle.ojp_values.proofs.Escapes.{and_true_left, and_true_right}
 use Rattle.ojp_zones.specs.Laws.{NumbersAreDecimal}
-use Rattle.ojp_zones.specs.Numbers.{are_digits, is_number, is_plain, number, number_if, with_digit}
+use Rattle.ojp_zones.specs.Numbers.{is_number, is_plain, number, number_if, with_digit}
 use Rattle.ojp_zones.specs.Parts.{Text}
 
 pub fold-ge : (digits : List ℕ) (n : ℕ) → n ≤ fold with_digit n digits

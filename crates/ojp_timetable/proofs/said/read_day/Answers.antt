@@ -1,4 +1,4 @@
-use Rattle.std.proofs.Common.{sym, ◌∙◌, ap}
+use Rattle.std.proofs.Common.{◌∙◌, ap}
 use Rattle.std.specs.Prelude.{Some, None}
 use Rattle.ojp_timetable.proofs.DayFacts.{days_are_spelled, one_reading}
 use Rattle.ojp_timetable.proofs.said.read_day.Goals as goal

@@ -1,4 +1,4 @@
-use Rattle.std.proofs.Common.{◌≡◌, ◌+◌, length, arith, sym, subst, ap, [], ◌∷◌, length-append}
+use Rattle.std.proofs.Common.{length, arith, sym, subst, ap, [], ◌∷◌, length-append}
 use Rattle.ojp_zones.specs.Noons.{AreYears}
 use Rattle.ojp_zones.proofs.NoonFacts.{AreYears-none, AreYears-push}
 use Rattle.ojp_zones.proofs.noons.years.Goals as goal

@@ -1,10 +1,9 @@
-use Rattle.std.proofs.Common.{◌≡◌, ◌≤◌, sym, ◌∙◌, ap, subst, Bool}
-use Rattle.std.specs.Prelude.{Some, None, Ok, Err}
+use Rattle.std.proofs.Common.{◌≡◌, ◌≤◌, sym, ◌∙◌, ap, subst}
+use Rattle.std.specs.Prelude.{Some, None}
 use Rattle.ojp_timetable.specs.Checks.{is_long, read_line}
 use Rattle.ojp_timetable.specs.Fields.{fields_of}
 use Rattle.ojp_timetable.specs.Lines.{Above}
-use Rattle.ojp_timetable.specs.Said.{called, entry_said}
-use Rattle.ojp_timetable.specs.declared.lines.Line.TheVariants as lines
+use Rattle.ojp_timetable.specs.Said.{entry_said}
 use Rattle.ojp_timetable.proofs.CallFacts.{call_checked, call_fails, failed}
 use Rattle.ojp_timetable.proofs.above.Above.read_call.Goals as goal
 

@@ -2,7 +2,6 @@ use Rattle.std.proofs.Common.{◌+◌, ◌≤◌, length, sym, subst}
 use Rattle.ojp_timetable.specs.declared.above.TheConstants.{BYTES}
 use Rattle.ojp_timetable.specs.Contents.{Contents}
 use Rattle.ojp_timetable.specs.Lines.{Above, grown}
-use Rattle.ojp_timetable.specs.Runs.{IsOffset}
 use Rattle.ojp_timetable.specs.WellContents.{GoesOnFrom, IsWellAbove, Passes}
 use Rattle.ojp_timetable.specs.declared.lines.Line.TheVariants as lines
 use Rattle.ojp_timetable.specs.declared.lines.Open.{Open}

@@ -1,4 +1,4 @@
-use Rattle.std.proofs.Common.{◌≡◌, ◌-◌, List, sym, subst, ap, ◌∙◌}
+use Rattle.std.proofs.Common.{◌-◌, List, sym, subst, ap, ◌∙◌}
 use Rattle.std.specs.Prelude.{None, slice_index, slice_index_or}
 use Rattle.ojp_zones.specs.Noons.{AreAllYears}
 use Rattle.ojp_zones.specs.declared.year.Year.{Year}
