@@ -6,14 +6,10 @@ use ojp_outside::{FileStore, StdSink, StdSource};
 use std::process::ExitCode;
 use std::{env, io};
 
-/// The status where the words can't be had as text.
-const BAD_WORDS: u8 = 2;
-
 fn main(rt: HostRuntime) -> ExitCode {
     let alloc = rt.alloc();
-    let Ok(words) = words_of(&rt) else {
-        return ExitCode::from(BAD_WORDS);
-    };
+    // Where the words can't be had as text there are none, and the top call refuses them.
+    let words = words_of(&rt).unwrap_or(Vec::new(alloc));
     let mut input = StdSource::new(rt.stdin());
     let mut output = StdSink::new(rt.stdout());
     let mut faults = StdSink::new(rt.stderr());

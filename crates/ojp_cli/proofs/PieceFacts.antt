@@ -1,27 +1,30 @@
 -- How far the reading of a document has come.
-use Rattle.std.proofs.Common.{◌≡◌, ◌≢◌, ℕ, zero, suc, ◌+◌, ◌-◌, ◌<◌, ◌≤◌, ◌^◌, [], ◌∷◌, ◌++◌, length, take, drop, Option, Some, None, Result, Ok, Err, IfOk, IfErr, refl, sym, ap, ◌∙◌, subst, arith, append_assoc, append-nil, length-append, take-append-drop}
-use Rattle.std.specs.Prelude.{Bool, true, false, ◌||◌, ◌&&◌, ◌==◌, nat_lt, IsTrue}
+use Rattle.std.proofs.Common.{◌≡◌, ◌≢◌, ℕ, zero, suc, ◌+◌, ◌-◌, ◌<◌, ◌≤◌, ◌^◌, [], ◌∷◌, ◌++◌, length, take, drop, Option, Some, None, Result, Ok, Err, IfOk, IfErr, refl, sym, ap, ◌∙◌, subst, inl, inr, arith, append_assoc, append-nil, length-append, take-append-drop}
+use Rattle.ojp_grammar.specs.declared.refusals.Reason.{Reason}
+use Rattle.std.specs.Prelude.{IfSome, Bool, true, false, ◌||◌, ◌&&◌, ◌==◌, nat_lt, IsTrue}
 use Rattle.std.specs.Io.KnownBytes.{Consumes, IsAtEnd, Keeps}
 use Rattle.std.proofs.KnownBytes.{Consumes-nil, Consumes-trans, Consumes-kept, Consumes-whole}
 use Rattle.ojp_values.specs.Texts.{Text}
 use Rattle.ojp_values.specs.declared.documents.Doc.{Doc}
 use Rattle.ojp_outside.specs.Causes.{Rose}
-use Rattle.ojp_outside.specs.Known.{LosesPrefix}
 use Rattle.ojp_grammar.specs.Documents.{IsWanted, Spells}
 use Rattle.ojp_grammar.specs.Places.{IsRefused}
 use Rattle.ojp_grammar.specs.declared.refusals.Want.{Want}
 use Rattle.ojp_decode.specs.Progress.{Progress, reading, whole, over, spent}
-use Rattle.ojp_decode.specs.Feeding.{FeedsOn, FeedsBehind, StaysRefused, trailing}
+use Rattle.ojp_grammar.specs.Whole.{IsWhole}
+use Rattle.ojp_decode.specs.Feeding.{Awaits, FeedsOn, FeedsBehind, StaysRefused, trailing}
 use Rattle.ojp_decode.specs.Standing.{ReaderView, HasRead, Follows, Feeds, Gives}
 use Rattle.ojp_decode.proofs.Counts.{Counts, counted}
 use Rattle.ojp_decode.specs.declared.fed.Fed.{Fed}
 use Rattle.ojp_decode.specs.declared.fed.Fed.TheVariants as feds
 use Rattle.ojp_decode.specs.declared.fed.ReadRefused.{ReadRefused}
 use Rattle.ojp_decode.specs.declared.fed.ReadRefused.TheVariants.{At, NoMemory}
-use Rattle.ojp_cli.specs.Inputs.{IsDocumentOf, IsNoDocument, ReadStops}
-use Rattle.ojp_cli.specs.Pieces.{Took, HasTaken, FeedsAll, Finishes, stop_of}
-use Rattle.ojp_cli.specs.declared.stops.Stop.{Stop}
-use Rattle.ojp_cli.specs.declared.stops.Stop.TheVariants.{Document, Words, File, FileTooLong, Input, Output, Memory, Table}
+use Rattle.ojp_outside.specs.Seen.{SourceView}
+use Rattle.ojp_cli.specs.Lent.{Lent, before, after}
+use Rattle.ojp_cli.specs.Inputs.{IsDocumentOf, IsNoDocument, IsReadInPart, FailsToRead, RefusesNone, TakesToRefusal, ReadsAs}
+use Rattle.ojp_cli.specs.Pieces.{Took, HasTaken, FeedsAll, Finishes, input_refusal}
+use Rattle.ojp_cli.specs.declared.input.InputRefused.{InputRefused}
+use Rattle.ojp_cli.specs.declared.input.InputRefused.TheVariants as refusals
 
 -- ---- one call of a reader
 
@@ -58,6 +61,24 @@ feeds_more piece (reading w b) new on behind want fed t =
 feeds_more piece (whole w b) new on behind want fed t = absurd (behind_more w b piece new (behind w b refl))
 feeds_more piece (over r) new on behind want fed t = absurd t
 feeds_more piece spent new on behind want fed t = absurd t
+
+-- a piece behind which a document goes on refuses nothing
+more_refuses_none : (piece : Text) (old new : Progress) → On old piece (Ok feds.More) new → Behind old piece (Ok feds.More) new
+    → (want : Want) (fed : Text) → Took want fed old → RefusesNone want (fed ++ piece)
+more_refuses_none piece (reading w b) new on behind want fed t =
+    inr (subst (λ (x : Want). Awaits x (fed ++ piece)) t.0 (subst (λ (l : Text). Awaits w (l ++ piece)) t.1 (on w b refl).0))
+more_refuses_none piece (whole w b) new on behind want fed t = absurd (behind_more w b piece new (behind w b refl))
+more_refuses_none piece (over r) new on behind want fed t = absurd t
+more_refuses_none piece spent new on behind want fed t = absurd t
+
+-- the bytes up to the end of a document in a piece are whole
+used_whole : (piece : Text) (old new : Progress) (used : ℕ) → On old piece (Ok (feds.Whole used)) new → Behind old piece (Ok (feds.Whole used)) new
+    → (want : Want) (fed : Text) → Took want fed old → piece ≢ [] → IsWhole want (fed ++ take used piece)
+used_whole piece (reading w b) new used on behind want fed t some =
+    subst (λ (x : Want). IsWhole x (fed ++ take used piece)) t.0 (subst (λ (l : Text). IsWhole w (l ++ take used piece)) t.1 (on w b refl).0.whole)
+used_whole piece (whole w b) new used on behind want fed t some = absurd (some (behind_used w b piece new used (behind w b refl)).1)
+used_whole piece (over r) new used on behind want fed t some = absurd t
+used_whole piece spent new used on behind want fed t some = absurd t
 
 take_nothing : (n : ℕ) (l : Text) → l ≡ [] → take n l ≡ []
 take_nothing zero [] e = refl
@@ -116,6 +137,19 @@ rest_ok : (want : Want) (fed piece rest : Text) (used : ℕ) (new : Progress) (f
 rest_ok want fed piece rest used new f e b =
     subst (λ (l : Text). Took want l new) (parts fed piece rest used e) (behind_ok want (fed ++ take used piece) rest new f b)
 
+-- a piece that a document ends is whole with it
+behind_nothing : (want : Want) (bytes rest : Text) (new : Progress) (f : Fed) → FeedsBehind want bytes rest (Ok f) new → rest ≡ []
+behind_nothing want bytes [] new f b = refl
+behind_nothing want bytes (x ∷ rest) new f b = let e = (b.more (λ n. cc)).0 in absurd (cc)
+
+rest_whole : (want : Want) (fed piece rest : Text) (used : ℕ) (new : Progress) (f : Fed) → rest ≡ drop used piece
+    → FeedsBehind want (fed ++ take used piece) rest (Ok f) new → IsWhole want (fed ++ take used piece) → RefusesNone want (fed ++ piece)
+rest_whole want fed piece rest used new f e b w =
+    let none : rest ≡ [] = behind_nothing want (fed ++ take used piece) rest new f b in
+    let same : fed ++ take used piece ≡ fed ++ piece =
+    sym (append-nil (fed ++ take used piece)) ∙ ap (λ (l : Text). (fed ++ take used piece) ++ l) (sym none) ∙ parts fed piece rest used e in
+    inl (subst (IsWhole want) same w)
+
 rest_err : (want : Want) (fed piece rest : Text) (used : ℕ) (new : Progress) (r : ReadRefused) → rest ≡ drop used piece
     → FeedsBehind want (fed ++ take used piece) rest (Err r) new → Refuses want fed piece r
 rest_err want fed piece rest used new NoMemory e b = tt
@@ -134,10 +168,12 @@ on_of old new piece result f want bytes e = subst (λ (p : Progress). Follows p 
 behind_of : (old new : Progress) (piece : Text) (result : Result Fed ReadRefused) → Follows old piece result new → Behind old piece result new
 behind_of old new piece result f want bytes e = subst (λ (p : Progress). Follows p piece result new) e f
 
-pub call_more : (piece : Text) (old new : ReaderView) → Called old piece (Ok feds.More) new → (want : Want) (fed : Text) → HasTaken want fed old → HasTaken want (fed ++ piece) new
+pub call_more : (piece : Text) (old new : ReaderView) → Called old piece (Ok feds.More) new → (want : Want) (fed : Text) → HasTaken want fed old → FeedsAll want fed piece (Ok tt) new
 call_more piece old new called want fed t =
     let f = called t.0 t.1 in
-    (f.0, f.1, feeds_more piece t.0 f.0 (on_of t.0 f.0 piece (Ok feds.More) f.2) (behind_of t.0 f.0 piece (Ok feds.More) f.2) want fed t.2)
+    let on : On t.0 piece (Ok feds.More) f.0 = on_of t.0 f.0 piece (Ok feds.More) f.2 in
+    let behind : Behind t.0 piece (Ok feds.More) f.0 = behind_of t.0 f.0 piece (Ok feds.More) f.2 in
+    ((f.0, f.1, feeds_more piece t.0 f.0 on behind want fed t.2), λ some. more_refuses_none piece t.0 f.0 on behind want fed t.2)
 
 pub call_used : (piece : Text) (old new : ReaderView) (used : ℕ) → Called old piece (Ok (feds.Whole used)) new → (want : Want) (fed : Text) → HasTaken want fed old → used ≤ length piece
 call_used piece old new used called want fed t =
@@ -150,6 +186,11 @@ call_whole piece old new used called want fed t =
     subst (HasRead new)
     (whole_then piece t.0 f.0 used (on_of t.0 f.0 piece (Ok (feds.Whole used)) f.2) (behind_of t.0 f.0 piece (Ok (feds.Whole used)) f.2) want fed t.2) f.1
 
+pub call_used_whole : (piece : Text) (old new : ReaderView) (used : ℕ) → Called old piece (Ok (feds.Whole used)) new → (want : Want) (fed : Text) → HasTaken want fed old → piece ≢ [] → IsWhole want (fed ++ take used piece)
+call_used_whole piece old new used called want fed t =
+    let f = called t.0 t.1 in
+    used_whole piece t.0 f.0 used (on_of t.0 f.0 piece (Ok (feds.Whole used)) f.2) (behind_of t.0 f.0 piece (Ok (feds.Whole used)) f.2) want fed t.2
+
 refuses_all : (want : Want) (fed piece : Text) (new : ReaderView) (r : ReadRefused) → Refuses want fed piece r → FeedsAll want fed piece (Err r) new
 refuses_all want fed piece new (At r) h = h
 refuses_all want fed piece new NoMemory h = tt
@@ -160,10 +201,10 @@ call_err piece old new r called want fed t =
     refuses_all want fed piece new r
     (feeds_err piece t.0 f.0 r (on_of t.0 f.0 piece (Err r) f.2) (behind_of t.0 f.0 piece (Err r) f.2) want fed t.2)
 
-pub call_rest : (piece rest : Text) (old new : ReaderView) (used : ℕ) (f : Fed) → rest ≡ drop used piece → Called old rest (Ok f) new → (want : Want) (fed : Text) → HasRead old (whole want (fed ++ take used piece)) → HasTaken want (fed ++ piece) new
-call_rest piece rest old new used f e called want fed h =
+pub call_rest : (piece rest : Text) (old new : ReaderView) (used : ℕ) (f : Fed) → rest ≡ drop used piece → Called old rest (Ok f) new → (want : Want) (fed : Text) → HasRead old (whole want (fed ++ take used piece)) → (piece ≢ [] → IsWhole want (fed ++ take used piece)) → FeedsAll want fed piece (Ok tt) new
+call_rest piece rest old new used f e called want fed h w =
     let went = called (whole want (fed ++ take used piece)) h in
-    (went.0, went.1, rest_ok want fed piece rest used went.0 f e went.2)
+    ((went.0, went.1, rest_ok want fed piece rest used went.0 f e went.2), λ some. rest_whole want fed piece rest used went.0 f e went.2 (w some))
 
 pub call_rest_err : (piece rest : Text) (old new : ReaderView) (used : ℕ) (r : ReadRefused) → rest ≡ drop used piece → Called old rest (Err r) new → (want : Want) (fed : Text) → HasRead old (whole want (fed ++ take used piece)) → FeedsAll want fed piece (Err r) new
 call_rest_err piece rest old new used r e called want fed h =
@@ -181,11 +222,11 @@ end_ok want fed reader doc t gives = go t.0 t.2 (gives t.0 t.1)
     go (over r) t g = absurd t
     go spent t g = absurd t
 
-pub end_err : (want : Want) (fed : Text) (reader : ReaderView) (refused : ReadRefused) (stop : Stop) → HasTaken want fed reader → ((progress : Progress) → HasRead reader progress → Gives progress (Err refused)) → stop ≡ stop_of refused → Finishes want fed (Err stop)
-end_err want fed reader refused stop t gives e =
-    subst (λ (s : Stop). Finishes want fed (Err s)) (sym e) (go t.0 refused t.2 (gives t.0 t.1))
+pub end_err : (want : Want) (fed : Text) (reader : ReaderView) (refused : ReadRefused) (refusal : InputRefused) → HasTaken want fed reader → ((progress : Progress) → HasRead reader progress → Gives progress (Err refused)) → refusal ≡ input_refusal refused → Finishes want fed (Err refusal)
+end_err want fed reader refused refusal t gives e =
+    subst (λ (s : InputRefused). Finishes want fed (Err s)) (sym e) (go t.0 refused t.2 (gives t.0 t.1))
   where
-    go : (p : Progress) (r : ReadRefused) → Took want fed p → Gives p (Err r) → Finishes want fed (Err (stop_of r))
+    go : (p : Progress) (r : ReadRefused) → Took want fed p → Gives p (Err r) → Finishes want fed (Err (input_refusal r))
     go (reading w b) (At r) t g =
         let here : IsRefused w b r.at r.reason = subst (λ reason. IsRefused w b r.at reason) (sym g.0) g.1 in
         subst (λ (l : Text). IsRefused want l r.at r.reason) t.1 (subst (λ (x : Want). IsRefused x b r.at r.reason) t.0 here)
@@ -205,70 +246,82 @@ sees_end was ended count room e none some =
     or_true true = refl
     or_true false = refl
 
--- these bytes were taken from the input and fed, and the count of faults stands still
-pub record HasFed (want : Want) (old now : Option Text) (before count : ℕ) (s : ReaderView) : Type 0 where
+-- these bytes were taken from the input and fed, they refuse nothing, and the count of faults stands still
+pub record HasFed (want : Want) (old now : SourceView) (s : ReaderView) : Type 0 where
   pub fed : Text
-  pub taken : Consumes old now fed
-  pub at_rest : count ≡ before
+  pub taken : Consumes old.left now.left fed
+  pub at_rest : now.faults ≡ old.faults
   pub took : HasTaken want fed s
+  pub undecided : fed ≢ [] → RefusesNone want fed
 
-pub HasFed-start : (want : Want) (old : Option Text) (count : ℕ) (s : ReaderView) → HasRead s (reading want []) → HasFed want old old count count s
-HasFed-start want old count s e = record {
+pub HasFed-start : (want : Want) (old : SourceView) (s : ReaderView) → HasRead s (reading want []) → HasFed want old old s
+HasFed-start want old s e = record {
   fed = [];
-  taken = Consumes-nil old;
+  taken = Consumes-nil old.left;
   at_rest = refl;
   took = (reading want [], e, (refl, refl));
+  undecided = λ some. absurd (some refl);
 }
 
-module _ (want : Want) (old mid now : Option Text) (before count later : ℕ) (s : ReaderView) (h : HasFed want old mid before count s) (piece : Text) (c : Consumes mid now piece) where
-  pub HasFed-more : (new : ReaderView) → FeedsAll want h.fed piece (Ok tt) new → later ≡ count → HasFed want old now before later new
-  HasFed-more new f le = record {
-    fed = h.fed ++ piece;
-    taken = Consumes-trans old mid now h.fed piece h.taken c;
-    at_rest = le ∙ h.at_rest;
-    took = f;
-  }
+pub HasFed-more : (want : Want) (old mid now : SourceView) (s : ReaderView) (h : HasFed want old mid s) (piece : Text) → Consumes mid.left now.left piece
+    → 0 < length piece → (new : ReaderView) → FeedsAll want h.fed piece (Ok tt) new → now.faults ≡ mid.faults → HasFed want old now new
+HasFed-more want old mid now s h piece c some new f calm = record {
+  fed = h.fed ++ piece;
+  taken = Consumes-trans old.left mid.left now.left h.fed piece h.taken c;
+  at_rest = calm ∙ h.at_rest;
+  took = f.0;
+  undecided = λ any. f.1 (λ none. absurd (omega (arith, some, ap length none)));
+}
 
-  pub has_lost : LosesPrefix old now
-  has_lost = (h.fed ++ piece, Consumes-trans old mid now h.fed piece h.taken c)
-
+module _ {I : Type 0} (want : Want) (input : Lent I SourceView) (mid : SourceView) (s : ReaderView) (h : HasFed want (before input) mid s) where
   -- the bytes that were fed are refused, whatever the input has left
-  pub stops_early : (r : ReadRefused) (new : ReaderView) → FeedsAll want h.fed piece (Err r) new → ReadStops want old before later (stop_of r)
-  stops_early NoMemory new f = tt
-  stops_early (At r) new f = by_old old now (Consumes-trans old mid now h.fed piece h.taken c)
+  pub stops_early : (piece : Text) → Consumes mid.left (after input).left piece → length piece ≤ 8192 → (after input).faults ≡ mid.faults
+      → (r : ReadRefused) (new : ReaderView) → FeedsAll want h.fed piece (Err r) new → (refusal : InputRefused) → refusal ≡ input_refusal r → ReadsAs want input (Err refusal)
+  stops_early piece c short calm r new f refusal e = subst (λ (x : InputRefused). ReadsAs want input (Err x)) (sym e) (go r f)
     where
-      by_old : (a b : Option Text) → Consumes a b (h.fed ++ piece) → IsNoDocument want a r.at r.reason
-      by_old None b x = tt
-      by_old (Some bytes) None x = absurd x
-      by_old (Some bytes) (Some left) x = subst (λ (l : Text). IsRefused want l r.at r.reason) (sym x) (f left)
+      gone : Consumes (before input).left (after input).left (h.fed ++ piece)
+      gone = Consumes-trans (before input).left mid.left (after input).left h.fed piece h.taken c
 
-module _ (want : Want) (old mid now : Option Text) (before count later : ℕ) (s : ReaderView) (h : HasFed want old mid before count s) (c : Consumes mid now []) (e : IsAtEnd now) where
-  all_taken : Consumes old now h.fed
-  all_taken = subst (Consumes old now) (append-nil h.fed) (Consumes-trans old mid now h.fed [] h.taken c)
+      by_left : (a b : Option Text) (at : ℕ) (reason : Reason) → Consumes a b (h.fed ++ piece) → ((more : Text) → IsRefused want ((h.fed ++ piece) ++ more) at reason) → IfSome a (λ bytes. IsRefused want bytes at reason)
+      by_left None b at reason x g = tt
+      by_left (Some bytes) None at reason x g = absurd x
+      by_left (Some bytes) (Some left) at reason x g = subst (λ (l : Text). IsRefused want l at reason) (sym x) (g left)
 
-  pub ends_read : (ended : Bool) (doc : Doc) → IsTrue ended → Finishes want h.fed (Ok doc) → IsDocumentOf want old now ended doc
-  ends_read ended doc seen f = record { bytes = h.fed; taken = all_taken; at_end = e; end_seen = seen; spells = f.1; wanted = f.0 }
+      go : (r : ReadRefused) → FeedsAll want h.fed piece (Err r) new → ReadsAs want input (Err (input_refusal r))
+      go NoMemory g = record { taken = (h.fed ++ piece, gone); calm = calm ∙ h.at_rest }
+      go (At refused) g = record {
+        refused = by_left (before input).left (after input).left refused.at refused.reason gone g;
+        taken = record { front = h.fed; last = piece; taken = gone; undecided = h.undecided; within = short };
+        calm = calm ∙ h.at_rest;
+      }
 
-  pub ends_refused : (stop : Stop) → Finishes want h.fed (Err stop) → ReadStops want old before later stop
-  ends_refused (Document at reason) f = Consumes-whole old now h.fed (λ bytes. IsRefused want bytes at reason) all_taken e f
-  ends_refused Words f = f
-  ends_refused File f = f
-  ends_refused FileTooLong f = f
-  ends_refused Input f = absurd f
-  ends_refused Output f = f
-  ends_refused Memory f = tt
-  ends_refused (Table line reason) f = f
+  -- the end of the input gives a document, or refuses what was fed
+  pub ends_all : Consumes mid.left (after input).left [] → IsAtEnd (after input).left → (after input).faults ≡ mid.faults
+      → IsTrue (after input).ended → (result : Result Doc InputRefused) → Finishes want h.fed result → ReadsAs want input result
+  ends_all c e calm seen result f = go result f
+    where
+      gone : Consumes (before input).left (after input).left (h.fed ++ [])
+      gone = Consumes-trans (before input).left mid.left (after input).left h.fed [] h.taken c
 
-  pub ends_all : (ended : Bool) (result : Result Doc Stop) → IsTrue ended → Finishes want h.fed result
-      → IfOk result (λ doc. IsDocumentOf want old now ended doc) × IfErr result (λ stop. ReadStops want old before later stop)
-  ends_all ended (Ok doc) seen f = (ends_read ended doc seen f, tt)
-  ends_all ended (Err stop) seen f = (tt, ends_refused stop f)
+      all : Consumes (before input).left (after input).left h.fed
+      all = subst (Consumes (before input).left (after input).left) (append-nil h.fed) gone
 
-pub kept_lost : (want : Want) (old mid now : Option Text) (before count : ℕ) (s : ReaderView) → HasFed want old mid before count s → Keeps mid now → LosesPrefix old now
-kept_lost want old mid now before count s h k = (h.fed, Consumes-kept old mid now h.fed h.taken k)
+      go : (result : Result Doc InputRefused) → Finishes want h.fed result → ReadsAs want input result
+      go (Ok doc) g = record { bytes = h.fed; taken = all; at_end = e; end_seen = seen; spells = g.1; wanted = g.0; calm = calm ∙ h.at_rest }
+      go (Err (refusals.At at reason)) g = record {
+        refused = Consumes-whole (before input).left (after input).left h.fed (λ bytes. IsRefused want bytes at reason) all e g;
+        taken = record { front = h.fed; last = []; taken = gone; undecided = h.undecided; within = omega arith };
+        calm = calm ∙ h.at_rest;
+      }
+      go (Err refusals.Failed) g = absurd g
+      go (Err refusals.NoMemory) g = record { taken = (h.fed, all); calm = calm ∙ h.at_rest }
 
-pub rose_later : (before mid now : ℕ) → mid ≡ before → Rose mid now → Rose before now
-rose_later before mid now same rose = omega arith
+  -- a read failed behind what was fed
+  pub fails_behind : Keeps mid.left (after input).left → Rose mid.faults (after input).faults → FailsToRead input
+  fails_behind kept rose = record {
+    taken = (h.fed, Consumes-kept (before input).left mid.left (after input).left h.fed h.taken kept);
+    rose = omega (arith, rose, h.at_rest);
+  }
 
 -- how many bytes a reader has taken
 abbrev pub count_of : ReaderView → ℕ

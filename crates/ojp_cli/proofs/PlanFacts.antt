@@ -1,63 +1,78 @@
--- How `plan` ends where the file, the request and the answer were good.
-use Rattle.std.proofs.Common.{ℕ, Option, Result, Ok, Err, OnOk, IfErr, IsTrue, refl}
-use Rattle.std.specs.Io.KnownBytes.{Appends}
+-- How `plan` fails for its input, and which status is due to it.
+use Rattle.std.proofs.Common.{◌≡◌, ℕ, ◌⊎◌, Result, Ok, Err, inl, inr, sym, subst}
 use Rattle.ojp_values.specs.Texts.{Text}
-use Rattle.ojp_cli.specs.Around.{Around}
-use Rattle.ojp_cli.specs.Plans.{delivery_bytes, Due, Ends, Files, StopsFor, WriteStops}
-use Rattle.ojp_cli.specs.Stops.{LeavesOutput, is_of_file}
-use Rattle.ojp_cli.specs.declared.stops.Stop.{Stop}
-use Rattle.ojp_cli.specs.declared.stops.Stop.TheVariants.{Document, Words, File, FileTooLong, Input, Output, Memory, Table}
+use Rattle.ojp_values.specs.declared.documents.Doc.TheVariants as docs
+use Rattle.ojp_grammar.specs.declared.refusals.Want.TheVariants as wants
+use Rattle.ojp_outside.specs.Seen.{SourceView, SinkView, StoreView}
+use Rattle.ojp_cli.specs.Lent.{Lent, before, after, IsUnused}
+use Rattle.ojp_cli.specs.Inputs.{ReadsAsk, failure_of_input}
+use Rattle.ojp_cli.specs.Files.{IsAccepted}
+use Rattle.ojp_cli.specs.Plans.{Planned, PlanFails, PlanIsDue, too_long, no_table, no_request, an_answer}
+use Rattle.ojp_cli.specs.Runs.{Ends, Concludes}
+use Rattle.ojp_cli.specs.declared.failures.Failure.{Failure}
+use Rattle.ojp_cli.specs.declared.failures.Failure.TheVariants.{Document, Words, Unread, TooLong, Input, Output, Memory, Line}
+use Rattle.ojp_cli.specs.declared.input.InputRefused.{InputRefused}
+use Rattle.ojp_cli.specs.declared.input.InputRefused.TheVariants as refusals
+use Rattle.ojp_cli.proofs.FileFacts.{rests_or_rose, opens, long_or_short, within_limit, refused_within, accepted_or_refused, refused_or_accepted}
+use Rattle.ojp_cli.proofs.InputFacts.{reads, spelled_or_refused, refused_or_spelled}
 
-unwritten_stops :
-    (f : Files) (a : Around) (file : Text) (due : Due f.contents file a.left a.left_now a.ended_now) (stop : Stop)
-    → WriteStops a.written a.written_now a.output_faults a.output_faults_now (delivery_bytes due.delivery) stop → StopsFor f a file stop
-unwritten_stops f a file due (Document at reason) stops = absurd stops
-unwritten_stops f a file due Words stops = stops
-unwritten_stops f a file due File stops = absurd stops
-unwritten_stops f a file due FileTooLong stops = absurd stops
-unwritten_stops f a file due Input stops = absurd stops
-unwritten_stops f a file due Output stops = (record { due = due; gained = stops.0 }, stops.1)
-unwritten_stops f a file due Memory stops = tt
-unwritten_stops f a file due (Table line reason) stops = absurd stops
+module _ {F I O : Type 0} (file : Text) (store : Lent F StoreView) (input : Lent I SourceView) (output : Lent O SinkView) where
+  pub fails_for_input : (refused : InputRefused) (failure : Failure) → IsAccepted file store → IsUnused output → ReadsAsk input (Err refused)
+      → failure ≡ failure_of_input refused → PlanFails file store input output failure
+  fails_for_input refused failure accepted unused reading e = subst (PlanFails file store input output) (sym e) (go refused reading)
+    where
+      go : (refused : InputRefused) → ReadsAsk input (Err refused) → PlanFails file store input output (failure_of_input refused)
+      go (refusals.At at reason) r = (accepted, r, unused)
+      go refusals.Failed r = (accepted, r, unused)
+      go refusals.NoMemory r = (accepted.1.same, r, unused)
 
-pub written_ends :
-    {A : Type 0} (f : Files) (a : Around) (file : Text) (due : Due f.contents file a.left a.left_now a.ended_now) (result : Result A Stop)
-    → OnOk result (Appends a.written a.written_now (delivery_bytes due.delivery))
-    → IfErr result (λ stop. WriteStops a.written a.written_now a.output_faults a.output_faults_now (delivery_bytes due.delivery) stop)
-    → Ends f a file result
-written_ends f a file due (Ok done) gained stops = record { due = due; gained = gained }
-written_ends f a file due (Err stop) gained stops = unwritten_stops f a file due stop stops
-
-unwritten_leaves : (old new : Option Text) (faults faults_now : ℕ) (bytes : Text) (stop : Stop) → WriteStops old new faults faults_now bytes stop → LeavesOutput old new stop
-unwritten_leaves old new faults faults_now bytes (Document at reason) stops = absurd stops
-unwritten_leaves old new faults faults_now bytes Words stops = absurd stops
-unwritten_leaves old new faults faults_now bytes File stops = absurd stops
-unwritten_leaves old new faults faults_now bytes FileTooLong stops = absurd stops
-unwritten_leaves old new faults faults_now bytes Input stops = absurd stops
-unwritten_leaves old new faults faults_now bytes Output stops = λ other. absurd (other refl)
-unwritten_leaves old new faults faults_now bytes Memory stops = λ other. stops
-unwritten_leaves old new faults faults_now bytes (Table line reason) stops = absurd stops
-
--- a delivery that was not written left the output as it was, unless a write failed
-pub leaves_unwritten :
-    {A : Type 0} (old new : Option Text) (faults faults_now : ℕ) (bytes : Text) (result : Result A Stop)
-    → IfErr result (λ stop. WriteStops old new faults faults_now bytes stop) → IfErr result (λ stop. LeavesOutput old new stop)
-leaves_unwritten old new faults faults_now bytes (Ok done) stops = tt
-leaves_unwritten old new faults faults_now bytes (Err stop) stops = unwritten_leaves old new faults faults_now bytes stop stops
-
-no_file_unwritten : (Q : Type 0) (old new : Option Text) (faults faults_now : ℕ) (bytes : Text) (stop : Stop) → WriteStops old new faults faults_now bytes stop → IsTrue (is_of_file stop) → Q
-no_file_unwritten Q old new faults faults_now bytes (Document at reason) stops file = absurd stops
-no_file_unwritten Q old new faults faults_now bytes Words stops file = absurd stops
-no_file_unwritten Q old new faults faults_now bytes File stops file = absurd stops
-no_file_unwritten Q old new faults faults_now bytes FileTooLong stops file = absurd stops
-no_file_unwritten Q old new faults faults_now bytes Input stops file = absurd stops
-no_file_unwritten Q old new faults faults_now bytes Output stops file = absurd (cc)
-no_file_unwritten Q old new faults faults_now bytes Memory stops file = absurd (cc)
-no_file_unwritten Q old new faults faults_now bytes (Table line reason) stops file = absurd stops
-
--- a delivery that was not written did not stop for a file
-pub unwritten_is_of_no_file :
-    {A : Type 0} (Q : Type 0) (old new : Option Text) (faults faults_now : ℕ) (bytes : Text) (result : Result A Stop)
-    → IfErr result (λ stop. WriteStops old new faults faults_now bytes stop) → IfErr result (λ stop. IsTrue (is_of_file stop) → Q)
-unwritten_is_of_no_file Q old new faults faults_now bytes (Ok done) stops = tt
-unwritten_is_of_no_file Q old new faults faults_now bytes (Err stop) stops = no_file_unwritten Q old new faults faults_now bytes stop stops
+  pub due_to_plan : {E : Type 0} (ended : Result (Unit {0}) Failure) (faults : Lent E SinkView) (result status : ℕ)
+      → Ends (Planned file store input output) (PlanFails file store input output) ended → Concludes ended faults result
+      → PlanIsDue file store input output status → (result ≡ 5) ⊎ (result ≡ status)
+  -- the file is too long
+  due_to_plan (Ok nothing) faults result status e c (too_long bytes r long) = absurd (within_limit file store bytes r e.due.table e.due.of_file long)
+  due_to_plan (Err (Document at reason)) faults result status e c (too_long bytes r long) = absurd (within_limit file store bytes r e.0.0 e.0.1 long)
+  due_to_plan (Err Words) faults result status e c (too_long bytes r long) = absurd e
+  due_to_plan (Err (Unread name)) faults result status e c (too_long bytes r long) = absurd (opens file store bytes r e.1)
+  due_to_plan (Err (TooLong name)) faults result status e c (too_long bytes r long) = inr c.0
+  due_to_plan (Err Input) faults result status e c (too_long bytes r long) = absurd (within_limit file store bytes r e.0.0 e.0.1 long)
+  due_to_plan (Err Output) faults result status e c (too_long bytes r long) = absurd (within_limit file store bytes r e.due.table e.due.of_file long)
+  due_to_plan (Err Memory) faults result status e c (too_long bytes r long) = inl c.0
+  due_to_plan (Err (Line name line reason)) faults result status e c (too_long bytes r long) = absurd (refused_within file store bytes r line reason e.1 long)
+  -- the file is no timetable
+  due_to_plan (Ok nothing) faults result status e c (no_table bytes r short n why refused) = absurd (accepted_or_refused file store bytes r e.due.table n why e.due.of_file refused)
+  due_to_plan (Err (Document at reason)) faults result status e c (no_table bytes r short n why refused) = absurd (accepted_or_refused file store bytes r e.0.0 n why e.0.1 refused)
+  due_to_plan (Err Words) faults result status e c (no_table bytes r short n why refused) = absurd e
+  due_to_plan (Err (Unread name)) faults result status e c (no_table bytes r short n why refused) = absurd (opens file store bytes r e.1)
+  due_to_plan (Err (TooLong name)) faults result status e c (no_table bytes r short n why refused) = absurd (long_or_short file store bytes r e.1 short)
+  due_to_plan (Err Input) faults result status e c (no_table bytes r short n why refused) = absurd (accepted_or_refused file store bytes r e.0.0 n why e.0.1 refused)
+  due_to_plan (Err Output) faults result status e c (no_table bytes r short n why refused) = absurd (accepted_or_refused file store bytes r e.due.table n why e.due.of_file refused)
+  due_to_plan (Err Memory) faults result status e c (no_table bytes r short n why refused) = inl c.0
+  due_to_plan (Err (Line name line reason)) faults result status e c (no_table bytes r short n why refused) = inr c.0
+  -- the input is no request
+  due_to_plan (Ok nothing) faults result status e c (no_request table good bytes heard at reason refused) =
+      absurd (spelled_or_refused wants.Request input bytes heard (docs.Ask e.due.ask) at reason e.due.of_input refused)
+  due_to_plan (Err (Document place cause)) faults result status e c (no_request table good bytes heard at reason refused) = inr c.0
+  due_to_plan (Err Words) faults result status e c (no_request table good bytes heard at reason refused) = absurd e
+  due_to_plan (Err (Unread name)) faults result status e c (no_request table good bytes heard at reason refused) = absurd (opens file store good.bytes good.readable e.1)
+  due_to_plan (Err (TooLong name)) faults result status e c (no_request table good bytes heard at reason refused) = absurd (long_or_short file store good.bytes good.readable e.1 good.within)
+  due_to_plan (Err Input) faults result status e c (no_request table good bytes heard at reason refused) = absurd (reads wants.Request input bytes heard e.1)
+  due_to_plan (Err Output) faults result status e c (no_request table good bytes heard at reason refused) =
+      absurd (spelled_or_refused wants.Request input bytes heard (docs.Ask e.due.ask) at reason e.due.of_input refused)
+  due_to_plan (Err Memory) faults result status e c (no_request table good bytes heard at reason refused) = inl c.0
+  due_to_plan (Err (Line name line why)) faults result status e c (no_request table good bytes heard at reason refused) =
+      absurd (refused_or_accepted file store good.bytes good.readable table line why e.1 good.is_text)
+  -- all is in order
+  due_to_plan (Ok nothing) faults result status e c (an_answer table good bytes heard ask spells rests) = inr c.0
+  due_to_plan (Err (Document at reason)) faults result status e c (an_answer table good bytes heard ask spells rests) =
+      absurd (refused_or_spelled wants.Request input bytes heard (docs.Ask ask) at reason e.1 spells.wanted spells.spells)
+  due_to_plan (Err Words) faults result status e c (an_answer table good bytes heard ask spells rests) = absurd e
+  due_to_plan (Err (Unread name)) faults result status e c (an_answer table good bytes heard ask spells rests) = absurd (opens file store good.bytes good.readable e.1)
+  due_to_plan (Err (TooLong name)) faults result status e c (an_answer table good bytes heard ask spells rests) =
+      absurd (long_or_short file store good.bytes good.readable e.1 good.within)
+  due_to_plan (Err Input) faults result status e c (an_answer table good bytes heard ask spells rests) = absurd (reads wants.Request input bytes heard e.1)
+  due_to_plan (Err Output) faults result status e c (an_answer table good bytes heard ask spells rests) =
+      absurd (rests_or_rose (before output).faults (after output).faults rests e.gained.rose)
+  due_to_plan (Err Memory) faults result status e c (an_answer table good bytes heard ask spells rests) = inl c.0
+  due_to_plan (Err (Line name line why)) faults result status e c (an_answer table good bytes heard ask spells rests) =
+      absurd (refused_or_accepted file store good.bytes good.readable table line why e.1 good.is_text)

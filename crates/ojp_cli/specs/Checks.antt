@@ -1,6 +1,5 @@
 -- What `check` does with a document.
-use Rattle.std.specs.Prelude.{Bool, Option, codes, Result, Ok, Err}
-use Rattle.std.specs.Io.KnownBytes.{Appends}
+use Rattle.std.specs.Prelude.{ℕ, codes}
 use Rattle.ojp_values.specs.Texts.{Text}
 use Rattle.ojp_values.specs.declared.asks.Ask.{Ask}
 use Rattle.ojp_values.specs.declared.asks.Ask.TheVariants as asks
@@ -8,14 +7,17 @@ use Rattle.ojp_values.specs.declared.replies.Delivery.{Delivery}
 use Rattle.ojp_values.specs.declared.replies.Delivery.TheVariants as deliveries
 use Rattle.ojp_values.specs.declared.documents.Doc.{Doc}
 use Rattle.ojp_values.specs.declared.documents.Doc.TheVariants as docs
-use Rattle.ojp_outside.specs.Causes.{Rose}
-use Rattle.ojp_outside.specs.Known.{AppendsPrefix}
+use Rattle.ojp_outside.specs.Causes.{Rests}
+use Rattle.ojp_grammar.specs.Documents.{IsWanted, Spells}
+use Rattle.ojp_grammar.specs.Places.{IsRefused}
+use Rattle.ojp_grammar.specs.declared.refusals.Reason.{Reason}
 use Rattle.ojp_grammar.specs.declared.refusals.Want.TheVariants.{Either}
-use Rattle.ojp_cli.specs.Stops.{line_of}
-use Rattle.ojp_cli.specs.Around.{Around}
-use Rattle.ojp_cli.specs.Inputs.{IsDocumentOf, IsNoDocument}
-use Rattle.ojp_cli.specs.declared.stops.Stop.{Stop}
-use Rattle.ojp_cli.specs.declared.stops.Stop.TheVariants.{Document, Words, File, FileTooLong, Input, Output, Memory, Table}
+use Rattle.ojp_outside.specs.Seen.{SourceView, SinkView}
+use Rattle.ojp_cli.specs.Lent.{Lent, before, after, IsUnused, Gains, GainsInPart}
+use Rattle.ojp_cli.specs.Inputs.{IsDocumentOf, IsNoDocument, FailsToRead, IsReadInPart, IsHeard}
+use Rattle.ojp_cli.specs.Failures.{line_of}
+use Rattle.ojp_cli.specs.declared.failures.Failure.{Failure}
+use Rattle.ojp_cli.specs.declared.failures.Failure.TheVariants.{Document, Words, Unread, TooLong, Input, Output, Memory, Line}
 
 abbrev pub ask_name : Ask → Text
 ask_name (asks.Trip ask) = codes "OJPTripRequest"
@@ -35,29 +37,32 @@ element_name (docs.Ask ask) = ask_name ask
 element_name (docs.Delivery delivery) = delivery_name delivery
 
 -- the output gained just the name of the document's element, as a line
-pub record Checked (left left_now : Option Text) (ended : Bool) (written written_now : Option Text) : Type 0 where
+pub record Checked {I O : Type 0} (input : Lent I SourceView) (output : Lent O SinkView) : Type 0 where
   pub doc : Doc
-  pub of_input : IsDocumentOf Either left left_now ended doc
-  pub gained : Appends written written_now (line_of (element_name doc))
+  pub of_input : IsDocumentOf Either input doc
+  pub gained : Gains output (line_of (element_name doc))
 
--- the output gained a front of that line
-pub record CheckedInPart (left left_now : Option Text) (ended : Bool) (written written_now : Option Text) : Type 0 where
+-- a write failed, and the output gained a front of that line
+pub record CheckedInPart {I O : Type 0} (input : Lent I SourceView) (output : Lent O SinkView) : Type 0 where
   pub doc : Doc
-  pub of_input : IsDocumentOf Either left left_now ended doc
-  pub gained : AppendsPrefix written written_now (line_of (element_name doc))
+  pub of_input : IsDocumentOf Either input doc
+  pub gained : GainsInPart output (line_of (element_name doc))
 
--- the cause of a stop of `check`: each step before it was passed
-abbrev pub StopsFor : Around → Stop → Type 0
-StopsFor a (Document at reason) = IsNoDocument Either a.left at reason
-StopsFor a Words = ⊥
-StopsFor a File = ⊥
-StopsFor a FileTooLong = ⊥
-StopsFor a Input = Rose a.input_faults a.input_faults_now
-StopsFor a Output = CheckedInPart a.left a.left_now a.ended_now a.written a.written_now × Rose a.output_faults a.output_faults_now
-StopsFor a Memory = Unit {0}
-StopsFor a (Table line reason) = ⊥
+-- why `check` fails, and what it leaves alone then
+abbrev pub CheckFails : {I O : Type 0} → Lent I SourceView → Lent O SinkView → Failure → Type 0
+CheckFails input output (Document at reason) = IsNoDocument Either input at reason × IsUnused output
+CheckFails input output Words = ⊥
+CheckFails input output (Unread name) = ⊥
+CheckFails input output (TooLong name) = ⊥
+CheckFails input output Input = FailsToRead input × IsUnused output
+CheckFails input output Output = CheckedInPart input output
+CheckFails input output Memory = IsReadInPart input × IsUnused output
+CheckFails input output (Line name line reason) = ⊥
 
--- how `check` ends
-abbrev pub Ends : {A : Type 0} → Around → Result A Stop → Type 0
-Ends a (Ok done) = Checked a.left a.left_now a.ended_now a.written a.written_now
-Ends a (Err stop) = StopsFor a stop
+-- the status that is due where the input tells its bytes and no count rose
+pub data CheckIsDue {I O : Type 0} (input : Lent I SourceView) (output : Lent O SinkView) : ℕ → Type 0 where
+  -- the input is no document
+  no_document : (bytes : Text) → IsHeard input bytes → (at : ℕ) (reason : Reason) → IsRefused Either bytes at reason → CheckIsDue input output 1
+  -- the input is a document, and no write failed
+  a_name : (bytes : Text) → IsHeard input bytes → (doc : Doc) → IsWanted Either doc → Spells doc bytes
+      → Rests (before output).faults (after output).faults → CheckIsDue input output 0

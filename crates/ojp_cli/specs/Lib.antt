@@ -1,8 +1,10 @@
 pub mod Words
 pub mod Commands
-pub mod Stops
-pub mod Around
+pub mod Lent
+pub mod Failures
 pub mod Inputs
 pub mod Pieces
+pub mod Files
 pub mod Plans
 pub mod Checks
+pub mod Runs

@@ -1,5 +1,5 @@
 -- A reader that is fed an input piece by piece.
-use Rattle.std.specs.Prelude.{◌≡◌, ◌++◌, Result, Ok, Err}
+use Rattle.std.specs.Prelude.{◌≡◌, ◌≢◌, [], ◌++◌, Result, Ok, Err}
 use Rattle.ojp_values.specs.Texts.{Text}
 use Rattle.ojp_values.specs.declared.documents.Doc.{Doc}
 use Rattle.ojp_grammar.specs.Documents.{IsWanted, Spells}
@@ -10,8 +10,9 @@ use Rattle.ojp_decode.specs.Feeding.{StaysRefused}
 use Rattle.ojp_decode.specs.Standing.{ReaderView, HasRead}
 use Rattle.ojp_decode.specs.declared.fed.ReadRefused.{ReadRefused}
 use Rattle.ojp_decode.specs.declared.fed.ReadRefused.TheVariants.{At, NoMemory}
-use Rattle.ojp_cli.specs.declared.stops.Stop.{Stop}
-use Rattle.ojp_cli.specs.declared.stops.Stop.TheVariants.{Document, Words, File, FileTooLong, Input, Output, Memory, Table}
+use Rattle.ojp_cli.specs.Inputs.{RefusesNone}
+use Rattle.ojp_cli.specs.declared.input.InputRefused.{InputRefused}
+use Rattle.ojp_cli.specs.declared.input.InputRefused.TheVariants as refusals
 
 -- the reader took these bytes, all that it was fed: a document goes on in them, or ends with them
 abbrev pub Took : Want → Text → Progress → Type 0
@@ -24,25 +25,20 @@ Took want fed spent = ⊥
 abbrev pub HasTaken : Want → Text → ReaderView → Type 0
 HasTaken want fed reader = (progress : Progress) × HasRead reader progress × Took want fed progress
 
--- the reader took the whole piece, or all the bytes are refused whatever follows
+-- the reader took the whole piece, which refuses nothing, or all the bytes are refused whatever follows
 abbrev pub FeedsAll : Want → Text → Text → Result (Unit {0}) ReadRefused → ReaderView → Type 0
-FeedsAll want fed piece (Ok done) new = HasTaken want (fed ++ piece) new
+FeedsAll want fed piece (Ok done) new = HasTaken want (fed ++ piece) new × (piece ≢ [] → RefusesNone want (fed ++ piece))
 FeedsAll want fed piece (Err (At refused)) new = StaysRefused want (fed ++ piece) refused
 FeedsAll want fed piece (Err NoMemory) new = Unit {0}
 
 -- the bytes spell the document, or no wanted one
-abbrev pub Finishes : Want → Text → Result Doc Stop → Type 0
+abbrev pub Finishes : Want → Text → Result Doc InputRefused → Type 0
 Finishes want fed (Ok doc) = IsWanted want doc × Spells doc fed
-Finishes want fed (Err (Document at reason)) = IsRefused want fed at reason
-Finishes want fed (Err Memory) = Unit {0}
-Finishes want fed (Err Words) = ⊥
-Finishes want fed (Err File) = ⊥
-Finishes want fed (Err FileTooLong) = ⊥
-Finishes want fed (Err Input) = ⊥
-Finishes want fed (Err Output) = ⊥
-Finishes want fed (Err (Table line reason)) = ⊥
+Finishes want fed (Err (refusals.At at reason)) = IsRefused want fed at reason
+Finishes want fed (Err refusals.Failed) = ⊥
+Finishes want fed (Err refusals.NoMemory) = Unit {0}
 
--- the stop for a refusal of a document
-abbrev pub stop_of : ReadRefused → Stop
-stop_of (At refused) = Document refused.at refused.reason
-stop_of NoMemory = Memory
+-- the refusal of an input whose document is refused so
+abbrev pub input_refusal : ReadRefused → InputRefused
+input_refusal (At refused) = refusals.At refused.at refused.reason
+input_refusal NoMemory = refusals.NoMemory

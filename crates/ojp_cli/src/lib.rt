@@ -1,15 +1,15 @@
-//! The commands of the program `ojp`, as one call over the words, the streams and the files that are handed in.
+//! The commands of the program `ojp`, as calls over the words, the streams and the files that are handed in.
 #![tactic(auto)]
 
-mod check;
-mod documents;
-mod plan;
-mod run;
-mod stops;
+mod commands;
+mod failures;
+mod files;
+mod here;
+mod input;
 mod words;
 
-pub use run::run_here;
-pub use stops::Stop;
+pub use failures::Failure;
+pub use here::run_here;
 
 #[cfg(test)]
 mod tests;

@@ -1,8 +1,8 @@
 //! Worked examples through the top call, over the forms in memory.
 
 use crate::run_here;
-use crate::tests::examples::{Case, documents, refusals, trips, words};
-use crate::tests::texts::{a_to_b, first_table, line_feed_between_tags};
+use crate::tests::examples::{Case, PLANS, RUNS};
+use crate::tests::texts::{A_TO_B, FIRST_TABLE, LINE_FEED_BETWEEN_TAGS};
 use ojp_outside::{MemSink, MemSource, MemStore};
 use std::alloc::{AllocError, Global};
 use std::process::Abort;
@@ -89,35 +89,30 @@ fn expect<R: Abort + AllocGlobal>(
     Ok(())
 }
 
-/// Runs the cases with no call that fails.
-fn expect_all<R: Abort + AllocGlobal>(rt: &R, cases: &[Case<'_>]) -> Result<(), AllocError> {
-    for case in cases {
-        expect(rt, case, &NOTHING)?;
+#[test]
+fn commands_give_their_status_output_and_line(rt: HostRuntime) -> Result<(), Fail> {
+    for (table, input, status, output, faults) in PLANS {
+        let case = Case {
+            words: &["plan", "a.tt"],
+            table,
+            input: input.as_bytes(),
+            status,
+            output,
+            faults,
+        };
+        expect(&rt, &case, &NOTHING)?;
     }
-    Ok(())
-}
-
-#[test]
-fn trips_of_timetables(rt: HostRuntime) -> Result<(), Fail> {
-    expect_all(&rt, &trips())?;
-    Ok(())
-}
-
-#[test]
-fn documents_of_each_kind(rt: HostRuntime) -> Result<(), Fail> {
-    expect_all(&rt, &documents())?;
-    Ok(())
-}
-
-#[test]
-fn refused_requests_and_timetables(rt: HostRuntime) -> Result<(), Fail> {
-    expect_all(&rt, &refusals())?;
-    Ok(())
-}
-
-#[test]
-fn wrong_words_and_a_missing_file(rt: HostRuntime) -> Result<(), Fail> {
-    expect_all(&rt, &words())?;
+    for (words, input, status, output, faults) in RUNS {
+        let case = Case {
+            words,
+            table: FIRST_TABLE,
+            input: input.as_bytes(),
+            status,
+            output,
+            faults,
+        };
+        expect(&rt, &case, &NOTHING)?;
+    }
     Ok(())
 }
 
@@ -125,7 +120,7 @@ fn wrong_words_and_a_missing_file(rt: HostRuntime) -> Result<(), Fail> {
 fn stopped<'a>(input: &'a [u8], faults: &'a str) -> Case<'a> {
     Case {
         words: &["plan", "a.tt"],
-        table: first_table(),
+        table: FIRST_TABLE,
         input,
         status: 1,
         output: "",
@@ -135,9 +130,9 @@ fn stopped<'a>(input: &'a [u8], faults: &'a str) -> Case<'a> {
 
 #[test]
 fn a_failure_outside_is_named(rt: HostRuntime) -> Result<(), Fail> {
-    let request = a_to_b();
+    let request = A_TO_B;
     // The second read gives the bytes that refuse the document: the third is not called.
-    let refused = line_feed_between_tags();
+    let refused = LINE_FEED_BETWEEN_TAGS;
     let cases: [(&str, &[u64], &[u64], &[u64], u8, &str); 5] = [
         (request, &[1], &[], &[], 3, "store: a.tt\n"),
         (request, &[], &[1], &[], 3, "input\n"),
@@ -148,7 +143,7 @@ fn a_failure_outside_is_named(rt: HostRuntime) -> Result<(), Fail> {
     for (input, store, reads, output, status, faults) in cases {
         let case = Case {
             words: &["plan", "a.tt"],
-            table: first_table(),
+            table: FIRST_TABLE,
             input: input.as_bytes(),
             status,
             output: "",
@@ -166,7 +161,7 @@ fn a_failure_outside_is_named(rt: HostRuntime) -> Result<(), Fail> {
 
 #[test]
 fn a_request_that_is_cut_or_goes_on_is_refused(rt: HostRuntime) -> Result<(), Fail> {
-    let request = a_to_b().as_bytes();
+    let request = A_TO_B.as_bytes();
     for end in 0..request.len() {
         let outcome = outcome_of(rt.alloc(), &stopped(&request[..end], ""), &NOTHING)?;
         assert_eq!(rt; outcome.status, 1, "{end} bytes");

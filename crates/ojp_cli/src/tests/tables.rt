@@ -1,7 +1,7 @@
 //! Timetable files that are refused, and the questions to one that is read.
 
 use crate::tests::examples::Case;
-use crate::tests::texts::a_to_b;
+use crate::tests::texts::A_TO_B;
 use crate::tests::{NOTHING, expect};
 use ojp_timetable::table::Timetable;
 use ojp_values::{Day, StopRef};
@@ -70,7 +70,7 @@ fn a_line_is_refused_for_its_first_reason(rt: HostRuntime) -> Result<(), Fail> {
         let case = Case {
             words: &["plan", "a.tt"],
             table: text.as_str(),
-            input: a_to_b().as_bytes(),
+            input: A_TO_B.as_bytes(),
             status: 6,
             output: "",
             faults: told,

@@ -1,0 +1,75 @@
+//! The command `plan`: one timetable, one request, one delivery.
+
+ghost use Rattle.std.specs.Prelude.{◌≡◌, IfOk, Ok, Err};
+ghost use Rattle.ojp_grammar.specs.declared.refusals.Want.TheVariants as wants;
+ghost use Rattle.ojp_cli.specs.Lent.{lent};
+ghost use Rattle.ojp_cli.specs.Runs.{Ends};
+ghost use Rattle.ojp_cli.specs.Inputs.{ReadsAsk};
+ghost use Rattle.ojp_cli.specs.Plans.{AnswersAs, Planned, PlanFails};
+
+use crate::failures::Failure;
+use crate::files::{self, read_table};
+use crate::input::{self, InputRefused, read_document};
+use ojp_encode::write;
+use ojp_grammar::refusals::Want;
+use ojp_outside::{MemSink, Sink, Source, Store, WriteFault, put_all};
+use ojp_region::answer;
+use ojp_scan::Scan;
+use ojp_timetable::table::Timetable;
+use ojp_values::{Ask, Doc, NoMemory};
+use std::alloc::Global;
+
+/// Reads the timetable file and one request, and writes the delivery that answers it.
+pub(crate) fn plan<'a, I: Source, O: Sink, F: Store>(
+    alloc: Global,
+    file: &'a str,
+    input: &mut I,
+    output: &mut O,
+    store: &mut F,
+) -> Result<(), Failure<'a>>
+    ensures { let lent_store = lent F.seen store.old store.new in
+        let lent_input = lent I.seen input.old input.new in
+        let lent_output = lent O.seen output.old output.new in
+        Ends (Planned file.now lent_store lent_input lent_output) (PlanFails file.now lent_store lent_input lent_output) result }
+{
+    let table = match read_table(alloc, file, store) {
+        Ok(table) => table,
+        Err(refused) => return Err(files::failure_of(file, refused)),
+    };
+    let ask = match read_request(alloc, input) {
+        Ok(ask) => ask,
+        Err(refused) => return Err(input::failure_of(refused)),
+    };
+    let text = match answer_text(alloc, &table, &ask) {
+        Ok(text) => text,
+        Err(NoMemory) => return Err(Failure::Memory),
+    };
+    match put_all(output, text.written()) {
+        Ok(()) => Ok(()),
+        Err(WriteFault) => Err(Failure::Output),
+    }
+}
+
+fn read_request<I: Source>(alloc: Global, input: &mut I) -> Result<Ask, InputRefused>
+    ensures { ReadsAsk (lent I.seen input.old input.new) result }
+{
+    match read_document(alloc, Want::Request, input) {
+        Ok(Doc::Ask(ask)) => Ok(ask),
+        Ok(Doc::Delivery(_)) => unreachable!(),
+        Err(refused) => Err(refused),
+    }
+}
+
+/// The document of the region's answer, in memory.
+fn answer_text(alloc: Global, table: &Timetable, ask: &Ask) -> Result<MemSink, NoMemory>
+    ensures { IfOk result (λ text. AnswersAs table.now ask.now text.written) }
+{
+    let mut scan = Scan::new(alloc, table)?;
+    let delivery = answer(alloc, table, &mut scan, ask)?;
+    let mut text = MemSink::new(alloc, Vec::new(alloc));
+    match write(&Doc::Delivery(delivery), &mut text) {
+        Ok(()) => Ok(text),
+        // A sink in memory that no write is to fail has only want of memory.
+        Err(WriteFault) => Err(NoMemory),
+    }
+}
