@@ -1,5 +1,0 @@
-use Rattle.ojp_labels.proofs.BoardFacts.{asked_starts_fall}
-use Rattle.ojp_labels.proofs.laws.asked_starts_fall.Goals as goal
-
-pub returns : goal.returns
-returns c = asked_starts_fall

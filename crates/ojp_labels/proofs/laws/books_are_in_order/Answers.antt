@@ -1,5 +1,0 @@
-use Rattle.ojp_labels.proofs.PairFacts.{books_are_in_order}
-use Rattle.ojp_labels.proofs.laws.books_are_in_order.Goals as goal
-
-pub returns : goal.returns
-returns c = books_are_in_order

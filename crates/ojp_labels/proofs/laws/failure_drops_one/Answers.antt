@@ -1,5 +1,0 @@
-use Rattle.ojp_labels.proofs.FailFacts.{failure_drops_one}
-use Rattle.ojp_labels.proofs.laws.failure_drops_one.Goals as goal
-
-pub returns : goal.returns
-returns c = failure_drops_one

@@ -1,5 +1,0 @@
-use Rattle.ojp_labels.proofs.NextFacts.{next_is_first}
-use Rattle.ojp_labels.proofs.laws.next_is_first.Goals as goal
-
-pub returns : goal.returns
-returns c = next_is_first

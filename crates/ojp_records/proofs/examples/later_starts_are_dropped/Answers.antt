@@ -1,0 +1,18 @@
+use Rattle.std.proofs.Common.{refl}
+use Rattle.ojp_values.specs.Texts.{same, text_lt, home}
+use Rattle.ojp_exchange.specs.Book.{has_region, serves, is_declared, leads_out}
+use Rattle.ojp_records.specs.Records.{is_told, is_failed}
+use Rattle.ojp_records.specs.Starts.{arrivals, starts_after, asked_start, known_starts, best}
+use Rattle.ojp_records.specs.Wanted.{improving_start, wanted_pairs, wanted}
+use Rattle.ojp_records.specs.Ends.{failed_checks, failed_pairs, fault}
+use Rattle.ojp_records.specs.Examples.{LaterStartsAreDropped}
+use Rattle.ojp_records.specs.Pairs.{ends_towards, pairs_from}
+use Rattle.ojp_records.specs.Places.{place_state, checks_in}
+use Rattle.ojp_records.proofs.examples.later_starts_are_dropped.Goals as goal
+
+computed : LaterStartsAreDropped
+unfolding same text_lt home has_region serves is_declared leads_out is_told is_failed ends_towards arrivals starts_after asked_start known_starts best improving_start pairs_from place_state checks_in wanted_pairs wanted failed_checks failed_pairs fault
+computed = record { three = refl; none = refl; best_arrival = refl; trip = refl }
+
+pub returns : goal.returns
+returns c = computed
