@@ -1,0 +1,14 @@
+pub use Rattle.ojp_records.specs.Records
+pub use Rattle.ojp_records.specs.Places
+pub use Rattle.ojp_records.specs.Pairs
+pub use Rattle.ojp_records.specs.Starts
+pub use Rattle.ojp_records.specs.Wanted
+pub use Rattle.ojp_records.specs.Told
+pub use Rattle.ojp_records.specs.Ends
+pub use Rattle.ojp_records.specs.Headline
+pub use Rattle.ojp_records.specs.Chains
+pub use Rattle.ojp_records.specs.Laws
+pub mod Slots
+pub mod Labels
+pub mod Boards
+pub mod Hearing
