@@ -4,9 +4,18 @@ use Rattle.ojp_sweep.specs.declared.connections.Connections.{Connections}
 use Rattle.ojp_sweep.specs.declared.connections.Days.{Days}
 use Rattle.ojp_sweep.specs.declared.connections.Asked.{Asked}
 use Rattle.ojp_sweep.specs.declared.labels.Hop.{Hop}
-use Rattle.ojp_sweep.specs.Rides.{Ride, IsSearch, GoesOn, Leads, Arrives, day_long}
+use Rattle.ojp_sweep.specs.Rides.{Ride, IsWell, IsSearch, GoesOn, Leads, Arrives, day_long}
 use Rattle.ojp_sweep.specs.Labels.{IsReady, AreRight, IsClosed, row_of}
-use Rattle.ojp_sweep.proofs.RideFacts.{transfer-low, transfer-from, ride-forward, from-within}
+use Rattle.ojp_sweep.proofs.RideFacts.{transfer-low, transfer-from, ride-forward, from-within, to-within}
+
+-- a chain of rides arrives at a place
+goes-on-within : (net : Connections) (days : Days) → IsWell net → (place arrived : ℕ) (rides : List Ride) (d a : ℕ) → place < length net.changes.items → GoesOn net days place arrived rides d a → d < length net.changes.items
+goes-on-within net days well place arrived [] d a within goes = subst (λ k. k < length net.changes.items) goes.0 within
+goes-on-within net days well place arrived (ride ∷ rides) d a within goes = goes-on-within net days well ride.to ride.arrives rides d a (to-within net days well ride goes.0) goes.2
+
+pub leads-within : (net : Connections) (days : Days) (asked : Asked) → IsWell net → (rides : List Ride) (d a : ℕ) → Leads net days asked rides d a → d < length net.changes.items
+leads-within net days asked well [] d a leads = absurd leads
+leads-within net days asked well (ride ∷ rides) d a leads = goes-on-within net days well ride.to ride.arrives rides d a (to-within net days well ride leads.0) leads.3
 
 module _ (arrives ready next : List ℕ) (hops : List Hop) (net : Connections) (days : Days) (asked : Asked) (search : IsSearch net days asked) (right : AreRight arrives ready next hops net days asked) (whole : asked.in_round ≡ false) where
   -- outside of rounds arrivals are counted in at once

@@ -112,12 +112,10 @@ impl Sweep {
     /// from its start, or after a `round` by one with as many rides at most; `None` exactly where there is no such
     /// chain. It takes no memory.
     pub fn arrival(&self, place: usize) -> Option<u64>
-        requires place { place < length self.now.net.changes.items }
-        requires made { IsMade self.now }
         ensures whole { (days : FourDays) (asked : OneAsked) → IsSweepOf self.now days asked → MatchOption result (NeverArrives self.now.net days asked place) (λ a. ArrivesFirst self.now.net days asked place a) }
         ensures round { (days : FourDays) (asked : OneAsked) (count : ℕ) → IsRoundOf self.now days asked count → MatchOption result (NeverArrivesBy self.now.net days asked count place) (λ a. ArrivesFirstBy self.now.net days asked count place a) }
     {
-        let arrives = self.progress.labels.arrives[place];
+        let arrives = *self.progress.labels.arrives.get(place)?;
         if arrives.saturating_sub(self.asked.start) > DAY_LONG {
             return None;
         }
