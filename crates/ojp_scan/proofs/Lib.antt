@@ -1,8 +1,10 @@
+pub mod ResultFacts
 pub mod TableFacts
+pub mod PlaceFacts
+pub mod RowFacts
+pub mod HopFacts
+pub mod DayFacts
 pub mod RideFacts
-pub mod LabelFacts
-pub mod RidingFacts
-pub mod PassFacts
-pub mod NetworkFacts
-pub mod JourneyFacts
+pub mod ChainFacts
+pub mod ScanFacts
 pub mod TripFacts

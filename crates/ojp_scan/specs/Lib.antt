@@ -1,7 +1,7 @@
-pub mod Networks
+pub mod Hops
 pub mod Views
-pub mod Rides
-pub mod Labels
+pub mod Networks
+pub mod Days
 pub mod Scans
 pub mod Walks
 pub mod Trips

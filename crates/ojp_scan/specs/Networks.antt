@@ -1,74 +1,75 @@
--- The numbers that a search gives to the stops of a timetable: their places.
-use Rattle.std.specs.Prelude.{◌≡◌, ℕ, ◌+◌, ◌<◌, List, Some, length, slice_get, slice_index}
+-- The network of a timetable: its hops with places in the stead of stops.
+use Rattle.std.specs.Prelude.{◌≡◌, ℕ, ◌+◌, ◌*◌, ◌<◌, ◌≤◌, List, ◌⊎◌, Option, Some, None, length, slice_get, slice_index, position, bytes_eq, MatchOption}
+use Rattle.indexmap.specs.IndexMap.{IndexMap, get}
 use Rattle.ojp_values.specs.Texts.{Text}
-use Rattle.ojp_timetable.specs.Tables.{Timetable, Journey, change_of}
+use Rattle.ojp_timetable.specs.Tables.{Timetable, Journey, Place}
 use Rattle.ojp_timetable.specs.declared.calls.Call.{Call}
-use Rattle.ojp_scan.specs.declared.networks.Network.{Network}
+use Rattle.ojp_sweep.specs.declared.connections.Connection.{Connection}
+use Rattle.ojp_sweep.specs.declared.connections.Connections.{Connections}
+use Rattle.ojp_sweep.specs.Rows.{IsNetworkOf}
+use Rattle.ojp_scan.specs.Hops.{StandsBefore}
 
--- the stop stands at the place
-abbrev pub IsPlace : List Text → ℕ → Text → Type 0
-IsPlace stops place stop = slice_get stops place ≡ Some stop
+-- the number of the stop among the places of the table
+abbrev pub place_number : Timetable → Text → Option ℕ
+place_number table stop = position (λ (place : Place). bytes_eq stop place.stop) table.places
 
--- the stop stands at no place
-abbrev pub IsNoPlace : List Text → Text → Type 0
-IsNoPlace stops stop = (place : ℕ) → IsPlace stops place stop → ⊥
+-- the connection is a hop of the table: from a call of a journey to the next, between the places of their stops
+pub record IsConnection (table : Timetable) (connection : Connection) : Type 0 where
+  pub of : Journey
+  pub board : Call
+  pub alight : Call
+  pub at : slice_get table.journeys connection.journey ≡ Some of
+  pub board_at : slice_get of.calls connection.position ≡ Some board
+  pub alight_at : slice_get of.calls (connection.position + 1) ≡ Some alight
+  pub departs : board.departs ≡ Some connection.departs
+  pub arrives : alight.arrives ≡ Some connection.arrives
+  pub from : place_number table board.stop ≡ Some connection.from
+  pub to : place_number table alight.stop ≡ Some connection.to
 
--- no stop stands at two places
-abbrev pub AreApart : List Text → Type 0
-AreApart stops = (x y : ℕ) (stop : Text) → IsPlace stops x stop → IsPlace stops y stop → x ≡ y
+-- one of the rows is the hop from that position of the journey
+pub record HasRow (rows : List Connection) (journey position : ℕ) : Type 0 where
+  pub row : ℕ
+  pub connection : Connection
+  pub at : slice_get rows row ≡ Some connection
+  pub journey_is : connection.journey ≡ journey
+  pub position_is : connection.position ≡ position
 
--- the place of the stop where the journey calls
-abbrev pub place_at : Network → ℕ → ℕ → ℕ
-place_at network journey position = slice_index network.places.items (slice_index network.firsts.items journey + position)
+-- the rows are the hops of the first journeys and the first of the next, by journey and position
+pub record AreRowsUpTo (rows : List Connection) (table : Timetable) (journeys positions : ℕ) : Type 0 where
+  pub sound : (row : ℕ) (connection : Connection) → slice_get rows row ≡ Some connection
+      → IsConnection table connection × StandsBefore connection.journey connection.position journeys positions
+  pub complete : (j p : ℕ) (journey : Journey) → slice_get table.journeys j ≡ Some journey → p + 1 < length journey.calls → StandsBefore j p journeys positions → HasRow rows j p
+  pub rising : (i k : ℕ) (first last : Connection) → i < k → slice_get rows i ≡ Some first → slice_get rows k ≡ Some last
+      → StandsBefore first.journey first.position last.journey last.position
+  pub few : length rows ≤ 100000 * journeys + positions
 
--- the place of the call is known, and is that of the stop
-pub record IsCallAt (network : Network) (journey position : ℕ) (stop : Text) : Type 0 where
-  pub journey_in : journey < length network.firsts.items
-  pub call_in : slice_index network.firsts.items journey + position < length network.places.items
-  pub is_place : IsPlace network.stops.keys (place_at network journey position) stop
+-- the rows are the hops of all journeys
+abbrev pub AreRowsOf : List Connection → Timetable → Type 0
+AreRowsOf rows table = AreRowsUpTo rows table (length table.journeys) 0
 
--- each place has the change time of its stop
-pub record HasChanges (network : Network) (table : Timetable) : Type 0 where
-  pub count : length network.changes.items ≡ length network.stops.keys
-  pub is : (place : ℕ) (stop : Text) → IsPlace network.stops.keys place stop → change_of table stop ≡ Some (slice_index network.changes.items place)
+-- each of the first journeys has its service
+pub record HaveServices (services : List ℕ) (table : Timetable) (count : ℕ) : Type 0 where
+  pub length_is : length services ≡ count
+  pub is : (k : ℕ) (journey : Journey) → k < count → slice_get table.journeys k ≡ Some journey → slice_index services k ≡ journey.service
 
--- each call of the table's journeys has its place
-abbrev pub HasCalls : Network → Timetable → Type 0
-HasCalls network table =
-    (j p : ℕ) (journey : Journey) (call : Call) → slice_get table.journeys j ≡ Some journey → slice_get journey.calls p ≡ Some call → IsCallAt network j p call.stop
+-- each of the first places has its change time
+pub record HaveChanges (changes : List ℕ) (table : Timetable) (count : ℕ) : Type 0 where
+  pub length_is : length changes ≡ count
+  pub is : (k : ℕ) (place : Place) → k < count → slice_get table.places k ≡ Some place → slice_index changes k ≡ place.change
 
--- the network has the stops of the table's journeys
-pub record IsNetworkOf (network : Network) (table : Timetable) : Type 0 where
-  pub apart : AreApart network.stops.keys
-  pub changes : HasChanges network table
-  pub calls : HasCalls network table
+-- the network has the hops of the table, with the services of the journeys and the change times of the places
+pub record IsNetworkFor (net : Connections) (table : Timetable) : Type 0 where
+  pub rows : List Connection
+  pub services : List ℕ
+  pub changes : List ℕ
+  pub rows_are : AreRowsOf rows table
+  pub services_are : HaveServices services table (length table.journeys)
+  pub changes_are : HaveChanges changes table (length table.places)
+  pub is : IsNetworkOf net rows services changes
 
--- what is known of the stops so far
-pub record HasStops (network : Network) (table : Timetable) : Type 0 where
-  pub apart : AreApart network.stops.keys
-  pub changes : HasChanges network table
-
--- stops were added after those that were there, and the calls are as they were
-pub record AddsStops (old new : Network) : Type 0 where
-  pub kept : (place : ℕ) (stop : Text) → IsPlace old.stops.keys place stop → IsPlace new.stops.keys place stop
-  pub firsts : new.firsts.items ≡ old.firsts.items
-  pub places : new.places.items ≡ old.places.items
-
--- each of the journey's first calls has its place
-abbrev pub HasFirstCalls : Network → Timetable → ℕ → ℕ → Type 0
-HasFirstCalls network table j positions =
-    (p : ℕ) (journey : Journey) (call : Call) → p < positions → slice_get table.journeys j ≡ Some journey → slice_get journey.calls p ≡ Some call → IsCallAt network j p call.stop
-
--- the network has the calls of the table's first journeys
-pub record IsNetworkUpTo (network : Network) (table : Timetable) (journeys : ℕ) : Type 0 where
-  pub stops : HasStops network table
-  pub count : length network.firsts.items ≡ journeys
-  pub calls : (j positions : ℕ) → j < journeys → HasFirstCalls network table j positions
-
--- and the first calls of the next
-pub record IsNetworkWithin (network : Network) (table : Timetable) (journeys positions : ℕ) : Type 0 where
-  pub stops : HasStops network table
-  pub count : length network.firsts.items ≡ journeys + 1
-  pub calls : (j positions : ℕ) → j < journeys → HasFirstCalls network table j positions
-  pub first : slice_index network.firsts.items journeys + positions ≡ length network.places.items
-  pub more : HasFirstCalls network table journeys positions
+-- the first places have their numbers, and no other stop has one
+abbrev pub HaveNumbers : {S : Type 0} → IndexMap Text ℕ S → Timetable → ℕ → Type 0
+HaveNumbers numbers table count =
+    (stop : Text) → MatchOption (get bytes_eq numbers stop)
+    ((k : ℕ) (place : Place) → k < count → slice_get table.places k ≡ Some place → place.stop ≡ stop → ⊥)
+    (λ number. place_number table stop ≡ Some number)

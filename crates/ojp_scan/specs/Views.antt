@@ -1,6 +1,8 @@
--- The journeys of a timetable and their calls, as the search reads them.
+-- The journeys of a timetable, their calls and the places of their stops, as the search reads them.
 use Rattle.std.specs.Prelude.{◌≡◌, ℕ, ◌<◌, Some, length, slice_get}
-use Rattle.ojp_timetable.specs.Tables.{Timetable, Journey}
+use Rattle.ojp_values.specs.Lists.{Among}
+use Rattle.ojp_values.specs.Texts.{Text}
+use Rattle.ojp_timetable.specs.Tables.{Timetable, Journey, Place}
 use Rattle.ojp_timetable.specs.declared.calls.Call.{Call}
 use Rattle.ojp_timetable.specs.declared.kept.JourneyView.{JourneyView}
 
@@ -22,9 +24,11 @@ pub record IsInJourney (table : Timetable) (i position : ℕ) : Type 0 where
 -- the call at that position of the journey of that number
 pub record IsCallOf (table : Timetable) (i position : ℕ) (call : Call) : Type 0 where
   pub journey : Journey
-  pub of : Call
   pub at : slice_get table.journeys i ≡ Some journey
-  pub call_at : slice_get journey.calls position ≡ Some of
-  pub stop : call.stop ≡ of.stop
-  pub arrives : call.arrives ≡ of.arrives
-  pub departs : call.departs ≡ of.departs
+  pub call_at : slice_get journey.calls position ≡ Some call
+
+-- the stop is one of the places
+pub record IsPlaceOf (table : Timetable) (stop : Text) : Type 0 where
+  pub place : Place
+  pub is_place : Among place table.places
+  pub at : place.stop ≡ stop

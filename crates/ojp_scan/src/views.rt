@@ -1,11 +1,14 @@
-//! The journeys of a timetable and their calls, as the search reads them.
+//! The journeys of a timetable, their calls and the places of their stops, as the search reads them.
 
-ghost use Rattle.std.specs.Prelude.{◌<◌, length};
-ghost use Rattle.ojp_scan.specs.Views.{IsJourneyAt, IsInJourney, IsCallOf};
+ghost use Rattle.std.specs.Prelude.{◌≡◌, ◌<◌, Some, length};
+ghost use Rattle.ojp_timetable.specs.Runs.{IsWell};
+ghost use Rattle.ojp_scan.specs.Networks.{place_number};
+ghost use Rattle.ojp_scan.specs.Views.{IsJourneyAt, IsInJourney, IsCallOf, IsPlaceOf};
 
 use ojp_timetable::calls::Call;
 use ojp_timetable::kept::JourneyView;
 use ojp_timetable::table::Timetable;
+use ojp_values::StopRef;
 
 /// The journey of that number.
 pub fn journey_at(table: &Timetable, i: usize) -> JourneyView
@@ -21,4 +24,13 @@ pub fn call_at(table: &Timetable, i: usize, position: usize) -> Call
     ensures { IsCallOf table.now i position result }
 {
     table.call(i, position)
+}
+
+/// The number of the stop among the places.
+pub fn place_of(table: &Timetable, stop: StopRef) -> u32
+    requires well { IsWell table.now }
+    requires known { IsPlaceOf table.now stop }
+    ensures { place_number table.now stop ≡ Some result }
+{
+    table.place_of(stop).unwrap() as u32
 }

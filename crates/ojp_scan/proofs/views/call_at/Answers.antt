@@ -1,4 +1,4 @@
-use Rattle.std.proofs.Common.{◌≡◌, ◌<◌, ℕ, List, [], Option, Some, length, sym, ap, subst, slice_get, refl}
+use Rattle.std.proofs.Common.{◌≡◌, ◌<◌, ℕ, List, [], Option, Some, length, sym, ap, subst, slice_get}
 use Rattle.std.specs.Prelude.{option_map, unwrap_or}
 use Rattle.ojp_timetable.specs.Tables.{Journey}
 use Rattle.ojp_timetable.specs.declared.calls.Call.{Call}
@@ -19,10 +19,6 @@ returns c =
     let r = c.requires in
     record {
       journey = r.journey;
-      of = c.call.result;
       at = r.at;
       call_at = subst (λ (cs : List Call). slice_get cs c.args.position ≡ Some c.call.result) (calls-are c.args.table.now.journeys c.args.i r.journey r.at) c.call.ensures;
-      stop = refl;
-      arrives = refl;
-      departs = refl;
     }

@@ -1,14 +1,11 @@
-use Rattle.std.proofs.Common.{◌≡◌, ◌∙◌, ℕ, ◌+◌, ◌<◌, ◌≤◌, arith, sym, ap, subst, Option, Some, Result, Ok, Err, IsOk, IfOk, slice_index, length, true≢false}
+use Rattle.std.proofs.Common.{◌≡◌, ◌∙◌, ℕ, ◌≤◌, sym, ap, subst, Option, Some, Result, Ok, Err, IsOk, IfOk, true≢false}
 use Rattle.std.specs.Prelude.{MatchOption}
 use Rattle.std.specs.Result.{result_ok}
 use Rattle.ojp_values.specs.Lists.{Earliest}
 use Rattle.ojp_timetable.specs.Journeys.{ArrivesWithin}
 use Rattle.ojp_timetable.specs.Answers.{HasNoTrip}
-use Rattle.ojp_timetable.specs.Runs.{day_long}
-use Rattle.std.proofs.lemmas.Option.{slice_get_within}
-use Rattle.ojp_scan.proofs.JourneyFacts.{no-place-no-trip, origin-no-trip, late-no-trip, reached-earliest, reached-in-range}
+use Rattle.ojp_scan.proofs.ScanFacts.{no-number-no-trip, origin-no-trip, never-no-trip, first-earliest, first-bound}
 use Rattle.ojp_scan.proofs.scans.Scan.arrival.Goals as goal
-use Rattle.ojp_scan.proofs.scans.Scan.arrival.Goals.{then-place-self-via-then-place-self, then-place-self-via-else-place-self+then-saturating_sub-gt-DAY_LONG}
 
 -- what is told of an instant in range
 told : {E : Type 0} (r : Result ℕ E) (o : Option ℕ) (v : ℕ) → o ≡ result_ok r → IsOk r → IfOk r (λ i. i ≡ v) → o ≡ Some v
@@ -17,34 +14,28 @@ told (Err x) o v e ok value = absurd (true≢false (sym ok))
 
 pub returns-in_err-place : goal.returns-in_err-place
 returns-in_err-place c table origin start found =
-    subst (λ r. MatchOption r (HasNoTrip table origin start c.args.stop) (λ moment. Earliest (ArrivesWithin table origin start c.args.stop) moment)) (sym c.from_residual.ensures)
-    (no-place-no-trip c.args.self.now table origin start found c.args.stop c.in_err-place.ensures)
-
-pub returns-in_err-arrives : goal.returns-in_err-arrives
-returns-in_err-arrives c table origin start found =
-    let past = c.in_err-arrives.ensures.lookup.3 in
-    let inside = slice_get_within c.args.self.now.network.stops.keys c.in_ok-place.place c.args.stop c.in_ok-place.ensures in
-    absurd (omega (arith, past, inside, found.made.arrivals, ap length c.deref.ensures.value))
+    let stop = c.args.stop in
+    subst (λ r. MatchOption r (HasNoTrip table origin start stop) (λ moment. Earliest (ArrivesWithin table origin start stop) moment)) (sym c.from_residual.ensures)
+    (no-number-no-trip c.args.self.now table origin start found stop (sym (c.in_err-place.ensures table found.made)))
 
 pub returns-then-place-self : goal.returns-then-place-self
 returns-then-place-self c table origin start found =
-    elim c.then-place-self.branch [
-      | then-place-self-via-then-place-self w ↦ origin-no-trip c.args.self.now table origin start found c.args.stop c.in_ok-place.place c.in_ok-place.ensures w.if-place-self.true
-      | then-place-self-via-else-place-self+then-saturating_sub-gt-DAY_LONG w ↦
-          let value = c.in_ok-arrives.ensures.lookup.3.1 0 ∙ ap (λ xs. slice_index xs c.in_ok-place.place) c.deref.ensures.value in
-          let e = found.start_is in
-          let late : start + day_long < slice_index c.args.self.now.labels.arrivals.items c.in_ok-place.place = omega (arith, value, w.saturating_sub.ensures, w.if-saturating_sub-gt-DAY_LONG.true) in
-          late-no-trip c.args.self.now table origin start found c.args.stop c.in_ok-place.place c.in_ok-place.ensures late
-    ]
+    origin-no-trip c.args.self.now table origin start found c.args.stop c.in_ok-place.place (sym (c.in_ok-place.ensures table found.made)) c.if-place-self.true
+
+pub returns-in_err-arrives : goal.returns-in_err-arrives
+returns-in_err-arrives c table origin start found =
+    let s = c.args.self.now in
+    let stop = c.args.stop in
+    subst (λ r. MatchOption r (HasNoTrip table origin start stop) (λ moment. Earliest (ArrivesWithin table origin start stop) moment)) (sym c.from_residual-in_err-arrives.ensures)
+    (never-no-trip s table origin start found stop c.in_ok-place.place (sym (c.in_ok-place.ensures table found.made)) (c.in_err-arrives.ensures.whole s.days s.asked found.found))
 
 pub returns : goal.returns
 returns c table origin start found =
-    let label = slice_index c.args.self.now.labels.arrivals.items c.in_ok-place.place in
-    let value : c.in_ok-arrives.field-0.now ≡ label = c.in_ok-arrives.ensures.lookup.3.1 0 ∙ ap (λ xs. slice_index xs c.in_ok-place.place) c.deref.ensures.value in
-    let e = found.start_is in
-    let reached : label ≤ start + day_long = omega (arith, value, c.saturating_sub.ensures, c.if-saturating_sub-gt-DAY_LONG.false) in
-    let range = reached-in-range c.args.self.now table origin start found c.args.stop c.in_ok-place.place c.in_ok-place.ensures reached in
-    let ok = c.new.ensures.exact.1 (subst (λ n. n ≤ 7258118399) (sym value) range) in
-    let gave = told c.new.result c.ok.result c.in_ok-arrives.field-0.now c.ok.ensures.value ok c.new.ensures.value ∙ ap Some value in
-    subst (λ r. MatchOption r (HasNoTrip table origin start c.args.stop) (λ moment. Earliest (ArrivesWithin table origin start c.args.stop) moment)) (sym gave)
-    (reached-earliest c.args.self.now table origin start found c.args.stop c.in_ok-place.place c.in_ok-place.ensures c.if-place-self.false reached)
+    let s = c.args.self.now in
+    let stop = c.args.stop in
+    let number = sym (c.in_ok-place.ensures table found.made) in
+    let first = c.in_ok-arrives.ensures.whole s.days s.asked found.found in
+    let bound = first-bound s table origin start found stop c.in_ok-place.place number c.in_ok-arrives.arrives first in
+    let gave = told c.new.result c.ok.result c.in_ok-arrives.arrives c.ok.ensures.value (c.new.ensures.exact.1 bound) c.new.ensures.value in
+    subst (λ r. MatchOption r (HasNoTrip table origin start stop) (λ moment. Earliest (ArrivesWithin table origin start stop) moment)) (sym gave)
+    (first-earliest s table origin start found stop c.in_ok-place.place number c.in_ok-arrives.arrives c.if-place-self.false first)
