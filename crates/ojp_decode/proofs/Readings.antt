@@ -206,6 +206,30 @@ run_decides want m bytes piece left kept room stop reason refused run is other t
     let P : List ℕ → Type 0 = λ b. ReadsOn want b piece (Err refused) m kept in
     subst P all (ran_refused want m (bytes ++ take room piece) left (drop room piece) piece kept stop reason refused run is other told)
 
+empty_of : (xs : List ℕ) → length xs ≡ 0 → xs ≡ []
+empty_of [] e = refl
+empty_of (x ∷ xs) e = absurd (omega arith)
+
+-- a run that passed all the bytes waits for more
+pub waits_behind : (want : Want) (m : Machine) (bytes kept piece joined new : List ℕ) (room took before : ℕ) (stop : Option Reason) (reason : Reason) → HasRun want m (bytes ++ take room piece) (drop took joined) stop → stop ≡ Some reason → reason ≡ Truncated → joined ≡ kept ++ take room piece → before ≡ length kept → before ≤ took → took ≤ length joined → took - before ≡ length piece → new ≡ [] → ReadsOn want (bytes ++ piece) piece (Ok feds.More) m new
+waits_behind want m bytes kept piece joined new room took before stop reason run is cut e size passed within all none =
+    let total : length joined ≡ length kept + length (take room piece) = ap length e ∙ length-append kept (take room piece) in
+    let fewer : length piece ≡ length (take room piece) + length (drop room piece) =
+    ap length (sym (take-append-drop room piece)) ∙ length-append (take room piece) (drop room piece) in
+    let joined_left : drop took joined ≡ [] =
+    empty_of (drop took joined) (omega (arith, length-drop took joined, total, fewer, size, passed, all)) in
+    let piece_left : drop (took - before) piece ≡ [] =
+    empty_of (drop (took - before) piece) (omega (arith, length-drop (took - before) piece, all)) in
+    let stops = subst (StopsFor (stack_of m.stack.items) (drop took joined)) cut (stops_for want m (bytes ++ take room piece) (drop took joined) stop reason run is) in
+    let P : List ℕ → Type 0 = λ l. StopsFor (stack_of m.stack.items) l Truncated in
+    let Q : List ℕ → Type 0 = IsWaiting m (bytes ++ piece) in
+    let waiting : IsWaiting m (bytes ++ piece) [] = record {
+      stands = subst (Stands m (bytes ++ piece)) piece_left (behind_stands m bytes kept piece joined room took before run.stands e size passed within);
+      stops = subst P joined_left stops;
+      cut = subst (IsCutAt m.cut (stack_of m.stack.items)) joined_left run.cut_is;
+    } in
+    (run.want_is, subst Q (sym none) waiting)
+
 -- ---- an item that stays cut
 
 stays_at : (cut : Cut) (k : List Syntax) (kept piece : List ℕ) → IsCutAt (Some cut) k kept → StaysCut cut (length kept) piece → IsCutAt (Some cut) k (kept ++ piece)

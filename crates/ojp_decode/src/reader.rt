@@ -162,8 +162,12 @@ fn read_behind(
     if ran.took < before {
         return Ok(Fed::More);
     }
+    let passed = ran.took - before;
     kept.clear();
-    read_piece(machine, kept, piece, ran.took - before)
+    if passed == piece.len() {
+        return Ok(Fed::More);
+    }
+    read_piece(machine, kept, piece, passed)
 }
 
 impl Reader {

@@ -4,7 +4,7 @@ use Rattle.ojp_grammar.proofs.Tests.{is_zero}
 use Rattle.ojp_grammar.specs.declared.refusals.Want.{Want}
 use Rattle.ojp_decode.specs.Standing.{ReadsOn}
 use Rattle.ojp_decode.specs.declared.fed.Fed.TheVariants as feds
-use Rattle.ojp_decode.proofs.Readings.{HasRun, joined_stands, empty_stands, passed_all, none_of, run_behind, run_decides, behind_stands, stays_cut}
+use Rattle.ojp_decode.proofs.Readings.{HasRun, joined_stands, empty_stands, passed_all, none_of, run_behind, run_decides, behind_stands, stays_cut, waits_behind}
 use Rattle.ojp_decode.proofs.reader.read_behind.Goals as goal
 
 pub read_piece-requires-clause-stands : goal.read_piece-requires-clause-stands
@@ -72,6 +72,18 @@ returns-then-ran-before c bytes waiting =
     subst P c.as_slice.ensures.value
     (stays_cut c.args.machine.now c.run.new.self bytes c.args.kept.now.items c.args.piece.now c.as_slice.result.now c.min-room.result c.in-Ok-run.ran.took c.len-before.result c.in-Ok-run.ran.stop c.in-Some.reason
     waiting joined_is c.min-room.ensures c.len-before.ensures.value run c.in-Some.is c.if-not-is_truncated.ensures c.in-Ok-run.ensures.took.1 c.if-ran-before.true)
+
+pub returns-then-passed-piece : goal.returns-then-passed-piece
+returns-then-passed-piece c bytes waiting =
+    let joined_is : c.as_slice.result.now ≡ c.args.kept.now.items ++ take c.min-room.result c.args.piece.now = c.as_slice.ensures.value ∙ c.in-Ok.ensures.ok in
+    let run : HasRun c.args.machine.now.want c.run.new.self (bytes ++ take c.min-room.result c.args.piece.now) (drop c.in-Ok-run.ran.took c.as_slice.result.now) c.in-Ok-run.ran.stop = record {
+      want_is = c.in-Ok-run.ensures.want;
+      stands = c.in-Ok-run.ensures.stands (bytes ++ take c.min-room.result c.args.piece.now) (joined_stands c.args.machine.now bytes c.args.kept.now.items (take c.min-room.result c.args.piece.now) c.as_slice.result.now waiting joined_is);
+      stop_is = c.in-Ok-run.ensures.stop;
+      cut_is = c.in-Ok-run.ensures.cut;
+    } in
+    waits_behind c.args.machine.now.want c.run.new.self bytes c.args.kept.now.items c.args.piece.now c.as_slice.result.now c.clear-2.new.self.items c.min-room.result c.in-Ok-run.ran.took c.len-before.result c.in-Ok-run.ran.stop c.in-Some.reason
+    run c.in-Some.is c.if-not-is_truncated.ensures joined_is c.len-before.ensures.value c.if-ran-before.false c.in-Ok-run.ensures.took.0 c.if-passed-piece.true c.clear-2.ensures
 
 pub read_piece-requires-2-clause-stands : goal.read_piece-requires-2-clause-stands
 read_piece-requires-2-clause-stands c =
