@@ -14,6 +14,7 @@ use crate::spelled::Spelled;
 use itoa::Buffer;
 use ojp_outside::{Sink, WriteFault};
 use ojp_tables::put_tag;
+use ojp_tables::runs::*;
 use ojp_values::{Ask, EventAsk, EventKind, MultiAsk, PointsAsk, StopRef, TripAsk};
 
 /// A stop is a target where it stands in a list.

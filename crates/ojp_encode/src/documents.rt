@@ -14,6 +14,7 @@ use crate::lists::put_around;
 use crate::markup::*;
 use crate::spelled::Spelled;
 use ojp_outside::{Sink, WriteFault};
+use ojp_tables::runs::*;
 use ojp_values::Doc;
 
 /// Writes the document, and takes no memory.

@@ -11,6 +11,7 @@ use crate::markup::*;
 use crate::spelled::Spelled;
 use ojp_outside::{Sink, WriteFault};
 use ojp_tables::put_tag;
+use ojp_tables::runs::*;
 use ojp_values::Fault;
 
 impl Spelled for Fault {

@@ -1,221 +1,106 @@
-//! Runs of markup texts, as they stand between the fields of documents.
-//!
-//! A run is named for the fields on its two sides, or for the element that it begins or ends. The
-//! letters of a duration, `PT` and `S`, stand in the runs beside its number.
+//! How many bytes all the runs of an element have, with the letters of durations and the kind of events.
 
-// Documents
+use ojp_tables::runs::*;
 
-pub const REQUEST_START: &[u8] =
-    b"<?xml version=\"1.0\" encoding=\"UTF-8\"?><OJP xmlns=\"http://www.siri.org.uk/siri\" xmlns:ojp=\"http://www.vdv.de/ojp\" version=\"1.0\"><OJPRequest><ServiceRequest>";
+/// The bytes of these runs together.
+macro_rules! bytes_of {
+    ($($run:expr),+ $(,)?) => {
+        (0 $(+ $run.len())+) as u64
+    };
+}
 
-pub const REQUEST_END: &[u8] = b"</ServiceRequest></OJPRequest></OJP>";
+pub const TARGET_MARKUP: u64 = bytes_of!(TARGET_START, TARGET_END);
 
-pub const DELIVERY_START: &[u8] =
-    b"<?xml version=\"1.0\" encoding=\"UTF-8\"?><OJP xmlns=\"http://www.siri.org.uk/siri\" xmlns:ojp=\"http://www.vdv.de/ojp\" version=\"1.0\"><OJPResponse><ServiceDelivery>";
+pub const TRIP_ASK_MARKUP: u64 = bytes_of!(TRIP_ASK_START, ORIGIN_TIME, TIME_TARGET, TRIP_ASK_END);
 
-pub const DELIVERY_END: &[u8] = b"</ServiceDelivery></OJPResponse></OJP>";
+pub const MULTI_ASK_MARKUP: u64 = bytes_of!(
+    MULTI_ASK_START,
+    ORIGIN_TIME,
+    ORIGIN_END,
+    MULTI_ASK_END
+);
 
-// Asks
+pub const DEPARTURES_MARKUP: u64 = bytes_of!(
+    EVENT_ASK_START,
+    ORIGIN_TIME,
+    TIME_NUMBER,
+    DEPARTURE_END
+);
 
-pub const TRIP_ASK_START: &[u8] = b"<ojp:OJPTripRequest><ojp:Origin><ojp:PlaceRef><StopPointRef>";
+pub const ARRIVALS_MARKUP: u64 = bytes_of!(EVENT_ASK_START, ORIGIN_TIME, TIME_NUMBER, ARRIVAL_END);
 
-pub const ORIGIN_TIME: &[u8] = b"</StopPointRef></ojp:PlaceRef><ojp:DepArrTime>";
+pub const POINTS_ASK_MARKUP: u64 = bytes_of!(POINTS_ASK_START, POINTS_ASK_END);
 
-pub const TIME_TARGET: &[u8] =
-    b"</ojp:DepArrTime></ojp:Origin><ojp:Destination><ojp:PlaceRef><StopPointRef>";
+pub const POINTS_PLACE_MARKUP: u64 = bytes_of!(POINTS_PLACE_START, POINTS_PLACE_END);
 
-pub const TRIP_ASK_END: &[u8] =
-    b"</StopPointRef></ojp:PlaceRef></ojp:Destination></ojp:OJPTripRequest>";
+pub const LEG_MARKUP: u64 = bytes_of!(
+    LEG_START,
+    STOP_NAME,
+    NAME_TIME,
+    BOARD_ALIGHT,
+    STOP_NAME,
+    NAME_TIME,
+    ALIGHT_SERVICE,
+    DAY_JOURNEY,
+    JOURNEY_LINE,
+    LINE_REGION,
+    LEG_END
+);
 
-pub const MULTI_ASK_START: &[u8] =
-    b"<ojp:OJPMultiPointTripRequest><ojp:Origin><ojp:PlaceRef><StopPointRef>";
+pub const TRIP_MARKUP: u64 = bytes_of!(
+    TRIP_START,
+    DURATION_TIME,
+    START_END,
+    END_TRANSFERS,
+    TRANSFERS_END,
+    TRIP_END
+);
 
-pub const ORIGIN_END: &[u8] = b"</ojp:DepArrTime></ojp:Origin>";
+pub const SAME_STOP_MARKUP: u64 = bytes_of!(SAME_STOP_START, FAULT_END);
 
-pub const MULTI_ASK_END: &[u8] = b"</ojp:OJPMultiPointTripRequest>";
+pub const STOP_UNKNOWN_MARKUP: u64 = bytes_of!(STOP_UNKNOWN_START, FAULT_END);
 
-pub const TARGET_START: &[u8] = b"<ojp:Destination><ojp:PlaceRef><StopPointRef>";
+pub const NO_TRIP_MARKUP: u64 = bytes_of!(NO_TRIP_START, FAULT_END);
 
-pub const TARGET_END: &[u8] = b"</StopPointRef></ojp:PlaceRef></ojp:Destination>";
+pub const REGION_FAILED_MARKUP: u64 = bytes_of!(REGION_FAILED_START, FAULT_END);
 
-pub const EVENT_ASK_START: &[u8] =
-    b"<ojp:OJPStopEventRequest><ojp:Location><ojp:PlaceRef><StopPointRef>";
+pub const NOT_SERVED_MARKUP: u64 = bytes_of!(NOT_SERVED_FAULT);
 
-pub const TIME_NUMBER: &[u8] = b"</ojp:DepArrTime></ojp:Location><ojp:Params><ojp:NumberOfResults>";
+pub const TRIP_DELIVERY_MARKUP: u64 = bytes_of!(TRIP_DELIVERY_START, TRIP_DELIVERY_END);
 
-pub const DEPARTURE_END: &[u8] =
-    b"</ojp:NumberOfResults><ojp:StopEventType>departure</ojp:StopEventType></ojp:Params></ojp:OJPStopEventRequest>";
+pub const TRIP_RESULT_MARKUP: u64 = bytes_of!(TRIP_RESULT_START, TRIP_RESULT_END);
 
-pub const ARRIVAL_END: &[u8] =
-    b"</ojp:NumberOfResults><ojp:StopEventType>arrival</ojp:StopEventType></ojp:Params></ojp:OJPStopEventRequest>";
+pub const MULTI_DELIVERY_MARKUP: u64 = bytes_of!(MULTI_DELIVERY_START, MULTI_DELIVERY_END);
 
-pub const POINTS_ASK_START: &[u8] = b"<ojp:OJPExchangePointsRequest>";
+pub const RESULT_MARKUP: u64 = bytes_of!(RESULT_START, RESULT_END);
 
-pub const POINTS_ASK_END: &[u8] = b"</ojp:OJPExchangePointsRequest>";
+pub const RESULT_NO_TRIP_MARKUP: u64 = bytes_of!(RESULT_NO_TRIP, RESULT_NO_TRIP_END);
 
-pub const POINTS_PLACE_START: &[u8] = b"<ojp:OJPExchangePointsRequest><ojp:PlaceRef><StopPointRef>";
+pub const EVENTS_MARKUP: u64 = bytes_of!(EVENTS_START, EVENTS_END);
 
-pub const POINTS_PLACE_END: &[u8] =
-    b"</StopPointRef></ojp:PlaceRef></ojp:OJPExchangePointsRequest>";
+pub const EVENT_MARKUP: u64 = bytes_of!(
+    EVENT_START,
+    STOP_ORDER,
+    ORDER_TIME,
+    TIME_SERVICE,
+    DAY_JOURNEY,
+    JOURNEY_LINE,
+    LINE_REGION,
+    EVENT_END
+);
 
-// Trips
+pub const POINTS_MARKUP: u64 = bytes_of!(POINTS_START, POINTS_END);
 
-pub const TRIP_START: &[u8] = b"<ojp:Trip><ojp:Duration>PT";
+pub const POINT_MARKUP: u64 = bytes_of!(
+    POINT_START,
+    REGION_STOP,
+    STOP_CHANGE,
+    CHANGE_END,
+    POINT_END
+);
 
-pub const DURATION_TIME: &[u8] = b"S</ojp:Duration><ojp:StartTime>";
+pub const NEIGHBOUR_MARKUP: u64 = bytes_of!(NEIGHBOUR_START, CODE_CHANGE, NEIGHBOUR_END);
 
-pub const START_END: &[u8] = b"</ojp:StartTime><ojp:EndTime>";
+pub const REQUEST_MARKUP: u64 = bytes_of!(REQUEST_START, REQUEST_END);
 
-pub const END_TRANSFERS: &[u8] = b"</ojp:EndTime><ojp:Transfers>";
-
-pub const TRANSFERS_END: &[u8] = b"</ojp:Transfers>";
-
-pub const TRIP_END: &[u8] = b"</ojp:Trip>";
-
-pub const LEG_START: &[u8] = b"<ojp:TripLeg><ojp:TimedLeg><ojp:LegBoard><StopPointRef>";
-
-pub const STOP_NAME: &[u8] = b"</StopPointRef><ojp:StopPointName>";
-
-pub const NAME_TIME: &[u8] = b"</ojp:StopPointName><ojp:TimetabledTime>";
-
-pub const BOARD_ALIGHT: &[u8] =
-    b"</ojp:TimetabledTime></ojp:LegBoard><ojp:LegAlight><StopPointRef>";
-
-pub const ALIGHT_SERVICE: &[u8] =
-    b"</ojp:TimetabledTime></ojp:LegAlight><ojp:Service><ojp:OperatingDayRef>";
-
-pub const DAY_JOURNEY: &[u8] = b"</ojp:OperatingDayRef><ojp:JourneyRef>";
-
-pub const JOURNEY_LINE: &[u8] = b"</ojp:JourneyRef><LineRef>";
-
-pub const LINE_REGION: &[u8] = b"</LineRef><ojp:OperatorRef>";
-
-pub const LEG_END: &[u8] = b"</ojp:OperatorRef></ojp:Service></ojp:TimedLeg></ojp:TripLeg>";
-
-// Faults
-
-pub const SAME_STOP_START: &[u8] = b"<ErrorCondition><ojp:Code>SAME_STOP</ojp:Code><ojp:Subject>";
-
-pub const STOP_UNKNOWN_START: &[u8] =
-    b"<ErrorCondition><ojp:Code>STOP_UNKNOWN</ojp:Code><ojp:Subject>";
-
-pub const NO_TRIP_START: &[u8] = b"<ErrorCondition><ojp:Code>NO_TRIP</ojp:Code><ojp:Subject>";
-
-pub const REGION_FAILED_START: &[u8] =
-    b"<ErrorCondition><ojp:Code>REGION_FAILED</ojp:Code><ojp:Subject>";
-
-pub const FAULT_END: &[u8] = b"</ojp:Subject></ErrorCondition>";
-
-pub const NOT_SERVED_FAULT: &[u8] =
-    b"<ErrorCondition><ojp:Code>NOT_SERVED</ojp:Code></ErrorCondition>";
-
-// Deliveries
-
-pub const TRIP_DELIVERY_START: &[u8] = b"<ojp:OJPTripDelivery>";
-
-pub const TRIP_DELIVERY_END: &[u8] = b"</ojp:OJPTripDelivery>";
-
-pub const TRIP_RESULT_START: &[u8] = b"<ojp:OJPTripDelivery><ojp:TripResult>";
-
-pub const TRIP_RESULT_END: &[u8] = b"</ojp:TripResult></ojp:OJPTripDelivery>";
-
-pub const MULTI_DELIVERY_START: &[u8] = b"<ojp:OJPMultiPointTripDelivery>";
-
-pub const MULTI_DELIVERY_END: &[u8] = b"</ojp:OJPMultiPointTripDelivery>";
-
-pub const RESULT_START: &[u8] = b"<ojp:MultiPointTripResult>";
-
-pub const RESULT_END: &[u8] = b"</ojp:MultiPointTripResult>";
-
-pub const RESULT_NO_TRIP: &[u8] =
-    b"<ojp:MultiPointTripResult><ErrorCondition><ojp:Code>NO_TRIP</ojp:Code><ojp:Subject>";
-
-pub const RESULT_NO_TRIP_END: &[u8] = b"</ojp:Subject></ErrorCondition></ojp:MultiPointTripResult>";
-
-pub const EVENTS_START: &[u8] = b"<ojp:OJPStopEventDelivery>";
-
-pub const EVENTS_END: &[u8] = b"</ojp:OJPStopEventDelivery>";
-
-pub const EVENT_START: &[u8] = b"<ojp:StopEventResult><StopPointRef>";
-
-pub const STOP_ORDER: &[u8] = b"</StopPointRef><ojp:Order>";
-
-pub const ORDER_TIME: &[u8] = b"</ojp:Order><ojp:TimetabledTime>";
-
-pub const TIME_SERVICE: &[u8] = b"</ojp:TimetabledTime><ojp:Service><ojp:OperatingDayRef>";
-
-pub const EVENT_END: &[u8] = b"</ojp:OperatorRef></ojp:Service></ojp:StopEventResult>";
-
-pub const POINTS_START: &[u8] = b"<ojp:OJPExchangePointsDelivery>";
-
-pub const POINTS_END: &[u8] = b"</ojp:OJPExchangePointsDelivery>";
-
-pub const POINT_START: &[u8] = b"<ojp:ExchangePoint><ojp:OperatorRef>";
-
-pub const REGION_STOP: &[u8] = b"</ojp:OperatorRef><StopPointRef>";
-
-pub const STOP_CHANGE: &[u8] = b"</StopPointRef><ojp:TransferDuration>PT";
-
-pub const CHANGE_END: &[u8] = b"S</ojp:TransferDuration>";
-
-pub const POINT_END: &[u8] = b"</ojp:ExchangePoint>";
-
-pub const NEIGHBOUR_START: &[u8] = b"<ojp:Neighbour><ojp:OperatorRef>";
-
-pub const CODE_CHANGE: &[u8] = b"</ojp:OperatorRef><ojp:TransferDuration>PT";
-
-pub const NEIGHBOUR_END: &[u8] = b"S</ojp:TransferDuration></ojp:Neighbour>";
-
-// The bytes of all runs of an element, with the letters of durations and the kind of events.
-
-pub const TARGET_MARKUP: u64 = 93;
-
-pub const TRIP_ASK_MARKUP: u64 = 250;
-
-pub const MULTI_ASK_MARKUP: u64 = 177;
-
-pub const DEPARTURES_MARKUP: u64 = 287;
-
-pub const ARRIVALS_MARKUP: u64 = 285;
-
-pub const POINTS_ASK_MARKUP: u64 = 61;
-
-pub const POINTS_PLACE_MARKUP: u64 = 119;
-
-pub const LEG_MARKUP: u64 = 491;
-
-pub const TRIP_MARKUP: u64 = 142;
-
-pub const SAME_STOP_MARKUP: u64 = 90;
-
-pub const STOP_UNKNOWN_MARKUP: u64 = 93;
-
-pub const NO_TRIP_MARKUP: u64 = 88;
-
-pub const REGION_FAILED_MARKUP: u64 = 94;
-
-pub const NOT_SERVED_MARKUP: u64 = 64;
-
-pub const TRIP_DELIVERY_MARKUP: u64 = 43;
-
-pub const TRIP_RESULT_MARKUP: u64 = 76;
-
-pub const MULTI_DELIVERY_MARKUP: u64 = 63;
-
-pub const RESULT_MARKUP: u64 = 53;
-
-pub const RESULT_NO_TRIP_MARKUP: u64 = 141;
-
-pub const EVENTS_MARKUP: u64 = 53;
-
-pub const EVENT_MARKUP: u64 = 293;
-
-pub const POINTS_MARKUP: u64 = 63;
-
-pub const POINT_MARKUP: u64 = 151;
-
-pub const NEIGHBOUR_MARKUP: u64 = 114;
-
-pub const REQUEST_MARKUP: u64 = 191;
-
-pub const DELIVERY_MARKUP: u64 = 195;
+pub const DELIVERY_MARKUP: u64 = bytes_of!(DELIVERY_START, DELIVERY_END);

@@ -13,6 +13,7 @@ use crate::markup::*;
 use crate::spelled::Spelled;
 use ojp_outside::{Sink, WriteFault};
 use ojp_tables::put_tag;
+use ojp_tables::runs::*;
 use ojp_values::{Delivery, EventsReply, MultiReply, PointsReply, TripReply, TripResult};
 
 impl Spelled for TripReply {

@@ -268,7 +268,7 @@ fn cut_at(alloc: Global, doc: &Doc, call: u64) -> Result<Option<MemSink>, AllocE
 fn a_failed_write_leaves_a_prefix(rt: HostRuntime) -> Result<(), Fail> {
     let alloc = rt.alloc();
     let doc = trip_delivery(alloc, "Alder & Beech")?;
-    for call in [1u64, 5, 20] {
+    for call in [1u64, 4, 7] {
         let sink = cut_at(alloc, &doc, call)?.ok_or("a failed write")?;
         let text = delivery_text().as_bytes();
         let written = sink.written();

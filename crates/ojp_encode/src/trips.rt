@@ -17,6 +17,7 @@ use crate::spelled::Spelled;
 use itoa::Buffer;
 use ojp_outside::{Sink, WriteFault};
 use ojp_tables::put_tag;
+use ojp_tables::runs::*;
 use ojp_values::{Leg, Trip};
 
 impl Spelled for Leg {
