@@ -10,6 +10,7 @@ pub mod Requesting
 pub mod MachineFacts
 pub mod Scans
 pub mod Stepping
+pub mod Tallies
 pub mod Unique
 pub mod WholeMessages
 pub mod Continuing

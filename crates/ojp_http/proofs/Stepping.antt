@@ -1,5 +1,5 @@
 -- One byte more: what each outcome says of all the bytes.
-use Rattle.std.proofs.Common.{◌≡◌, ℕ, ◌+◌, ◌-◌, ◌^◌, ◌≤◌, ◌<◌, true, false, List, [], ◌∷◌, ◌++◌, length, take, drop, get_or, refl, sym, ap, ◌∙◌, arith, append_assoc, append-nil, subst, length-append, suc, Option, Some, None, Result, Ok, Err, not, ◌&&◌, inl}
+use Rattle.std.proofs.Common.{◌≡◌, ℕ, ◌+◌, ◌-◌, ◌^◌, ◌≤◌, ◌<◌, true, false, List, [], ◌∷◌, ◌++◌, length, take, drop, get_or, refl, sym, ap, ◌∙◌, arith, append_assoc, append-nil, subst, length-append, suc, Option, Some, None, Result, Ok, Err, not, ◌&&◌, inl, inr, ◌⊎◌}
 use Rattle.std.specs.Prelude.{◌==◌, ◌≢◌}
 use Rattle.httparse.specs.Grammar.{Field, RequestHead, ReadsRequest, ResponseHead, ReadsResponse, LineEnd, ChunkLine, ReadsChunkLine, print_chunk_line, chunk_size}
 use Rattle.ojp_http.specs.declared.refusal.Refusal.{Refusal}
@@ -17,7 +17,7 @@ use Rattle.ojp_http.specs.Heads.{HasHead, HasNoHead, IsFull, IsFullAt, Begins, I
 use Rattle.ojp_http.specs.Bodies.{Ends, Takes, taken as takes_all, short as takes_short, EndsChunk, ended as chunk_ended, begun as chunk_begun, other as chunk_other, Chunks, Trailer, ReadsTrailer, Sized, last as size_last, chunk as size_chunk, over as size_over, room_after, Frames, has_no_feed, Asks, Replies, ReadsLine, ReadsLines}
 use Rattle.ojp_http.specs.Fields.{ask_frame, reply_frame}
 use Rattle.ojp_http.specs.Machine.{ReadsAt, Reads, IsOpenAt, IsOpen, work_at, room_at, SpendsBy, Spends, limit_at, IsCounted, FrameSpends, SizedSpends, Follows, Enters, Moves, StepsBy, Steps, Advances, content_left, chunk_left, one_of}
-use Rattle.ojp_http.specs.Outcomes.{HasGrown}
+use Rattle.ojp_http.specs.Outcomes.{HasGrown, Refuses}
 use Rattle.ojp_http.specs.Scanned.{no_lines, scan_from, scan_step}
 use Rattle.ojp_http.specs.declared.scan.Scan.{Scan}
 use Rattle.ojp_http.proofs.Scans.{scan_from-append}
@@ -92,11 +92,10 @@ module _ {H : Type 0} (R : List ℕ → H → List ℕ → Type 0) (fields : H �
     begins_found bytes h rest v x k =
         found h rest (record { front = x.front; is = ap (λ (l : List ℕ). l ++ rest) (x.is ∙ append-nil x.front); reads = x.reads; few = x.few; within = x.within }) k
 
-    pub begins_malformed : (bytes : List ℕ) → HasNoHead R fields most bytes × IsMalformed R fields most bytes → Begins R fields most bad large K bytes (refused bad)
-    begins_malformed bytes x = malformed x.0 x.1 refl
-
-    pub begins_full : (bytes : List ℕ) → HasNoHead R fields most bytes × IsFull most bytes → Begins R fields most bad large K bytes (refused large)
-    begins_full bytes x = full x.0 x.1 refl
+    -- what is refused whatever follows begins so
+    pub begins_refused : (bytes : List ℕ) (e : Refusal) → Refuses R fields most bad large bytes e → (rest : List ℕ) → Begins R fields most bad large K (bytes ++ rest) (refused e)
+    begins_refused bytes e (inl x) rest = malformed (x.1 rest).0 (x.1 rest).1 (ap refused x.0)
+    begins_refused bytes e (inr x) rest = full (x.1 rest).0 (x.1 rest).1 (ap refused x.0)
 
 -- ---- heads
 

@@ -11,6 +11,7 @@ pub mod Replying
 pub mod Responses
 pub mod Serving
 pub mod Stops
+pub mod Tallies
 pub mod Verdicts
 pub mod Continued
 pub mod Few

@@ -1,13 +1,14 @@
 //! What the fields of a head say of its body.
-ghost use Rattle.std.specs.Prelude.{◌≡◌, ◌<◌, ◌≤◌, ◌+◌, length, map, All, IsTrue, MatchOption, take, codes, ◌*◌, ◌^◌};
+ghost use Rattle.std.specs.Prelude.{◌≡◌, ◌<◌, ◌≤◌, ◌+◌, ◌-◌, ◌==◌, ◌&&◌, [], if◌then◌else◌, length, map, All, IsTrue, MatchOption, take, codes, ◌*◌, ◌^◌};
 ghost use Rattle.std.specs.List.{list_all};
 ghost use Rattle.std.specs.Char.{is_ascii_digit, digit_value};
 ghost use Rattle.std.specs.Str.Parse.{digits_value};
-ghost use Rattle.httparse.specs.Spans.{IsHeaderWithin, header_bytes};
-ghost use Rattle.ojp_http.specs.Fields.{is_same, count_named, value_named, is_number, is_conflict, is_host_wrong, frame_by, frame_of, ask_fields, ask_by, reply_by};
+ghost use Rattle.httparse.specs.Spans.{IsHeaderWithin, IsWithin, header_bytes, span_bytes};
+ghost use Rattle.ojp_http.specs.Tallies.{Counts, IsTally};
+ghost use Rattle.ojp_http.specs.Fields.{is_same, count_named, is_number, is_conflict, is_host_wrong, frame_by, frame_of, ask_fields, ask_by, reply_by};
 
 use crate::refusal::{Frame, Refusal};
-use httparse::spans::HeaderSpan;
+use httparse::spans::{HeaderSpan, Span};
 
 /// The most bytes of a request's body.
 pub const BODY_LIMIT: u64 = 1_048_576;
@@ -19,31 +20,87 @@ fn is_same(a: &[u8], b: &[u8]) -> bool
     a.eq_ignore_ascii_case(b)
 }
 
-/// How many fields have this name.
-fn count_named(bytes: &[u8], headers: &[HeaderSpan], name: &[u8]) -> usize
-    requires { All (IsHeaderWithin (length bytes.now)) headers.now }
-    ensures { result ≡ count_named name.now (map (header_bytes bytes.now) headers.now) }
-{
-    let mut count = 0;
-    for header in headers {
-        if is_same(header.name.of(bytes), name) {
-            count += 1;
-        }
-    }
-    count
+/// The fields of one name: how many there are, and where the value of the first is.
+#[derive(Clone, Copy, Debug)]
+struct Named {
+    count: usize,
+    first: Span,
 }
 
-/// The value of the first field of this name, and nothing where there is none.
-fn value_named<'a>(bytes: &'a [u8], headers: &[HeaderSpan], name: &[u8]) -> &'a [u8]
-    requires { All (IsHeaderWithin (length bytes.now)) headers.now }
-    ensures { result.now ≡ value_named name.now (map (header_bytes bytes.now) headers.now) }
-{
-    for header in headers {
-        if is_same(header.name.of(bytes), name) {
-            return header.value.of(bytes);
+impl Named {
+    /// No field yet: the value is nothing.
+    fn none() -> Named
+        ensures { result ≡ record { count = 0; first = record { start = 0; end = 0 } } }
+    {
+        Named {
+            count: 0,
+            first: Span { start: 0, end: 0 },
         }
     }
-    &[]
+
+    /// With one field more, if it has the name.
+    fn with(self, has_name: bool, value: Span) -> Named
+        requires { self.count < 2 ^ 64 - 1 }
+        ensures count { result.count ≡ (if has_name then self.count + 1 else self.count) }
+        ensures first { result.first ≡ (if has_name && (self.count == 0) then value else self.first) }
+    {
+        if !has_name {
+            return self;
+        }
+        let first = if self.count == 0 { value } else { self.first };
+        Named {
+            count: self.count + 1,
+            first,
+        }
+    }
+}
+
+/// The fields of a head that say how its body is framed, and those of the host.
+#[derive(Clone, Copy, Debug)]
+struct Fields {
+    hosts: Named,
+    lengths: Named,
+    codings: Named,
+}
+
+/// The fields, by one pass.
+fn fields_of(bytes: &[u8], headers: &[HeaderSpan]) -> Fields
+    requires { All (IsHeaderWithin (length bytes.now)) headers.now }
+    ensures hosts { result.hosts.count ≡ count_named (codes "host") (map (header_bytes bytes.now) headers.now) }
+    ensures lengths { IsTally (codes "content-length") bytes.now headers.now result.lengths }
+    ensures codings { IsTally (codes "transfer-encoding") bytes.now headers.now result.codings }
+{
+    let mut fields = Fields {
+        hosts: Named::none(),
+        lengths: Named::none(),
+        codings: Named::none(),
+    };
+    for header in headers {
+        fields = with_field(fields, bytes, header);
+    }
+    fields
+}
+
+/// The fields with one more.
+fn with_field(fields: Fields, bytes: &[u8], header: &HeaderSpan) -> Fields
+    requires within { IsHeaderWithin (length bytes.now) header.now }
+    requires hosts { fields.hosts.count < 2 ^ 64 - 1 }
+    requires lengths { fields.lengths.count < 2 ^ 64 - 1 }
+    requires codings { fields.codings.count < 2 ^ 64 - 1 }
+    ensures hosts { Counts (codes "host") bytes.now header.now fields.hosts result.hosts }
+    ensures lengths { Counts (codes "content-length") bytes.now header.now fields.lengths result.lengths }
+    ensures codings { Counts (codes "transfer-encoding") bytes.now header.now fields.codings result.codings }
+{
+    let name = header.name.of(bytes);
+    Fields {
+        hosts: fields.hosts.with(is_same(name, b"host"), header.value),
+        lengths: fields
+            .lengths
+            .with(is_same(name, b"content-length"), header.value),
+        codings: fields
+            .codings
+            .with(is_same(name, b"transfer-encoding"), header.value),
+    }
 }
 
 /// Whether a text is one or more digits.
@@ -124,18 +181,19 @@ fn frame_by(
     }
 }
 
-/// The frame by all fields, where a Content-Length is at most `most`.
-pub fn frame_of(most: u64, minor: u8, bytes: &[u8], headers: &[HeaderSpan]) -> Frame
-    requires { All (IsHeaderWithin (length bytes.now)) headers.now }
-    ensures { result ≡ frame_of most minor (map (header_bytes bytes.now) headers.now) }
+/// The frame by the fields, where a Content-Length is at most `most`.
+fn frame_of(most: u64, minor: u8, bytes: &[u8], fields: Fields) -> Frame
+    requires length { IsWithin (length bytes.now) fields.lengths.first }
+    requires coding { IsWithin (length bytes.now) fields.codings.first }
+    ensures { result ≡ frame_by most minor fields.lengths.count fields.codings.count (span_bytes bytes.now fields.lengths.first) (span_bytes bytes.now fields.codings.first) }
 {
     frame_by(
         most,
         minor,
-        count_named(bytes, headers, b"content-length"),
-        count_named(bytes, headers, b"transfer-encoding"),
-        value_named(bytes, headers, b"content-length"),
-        value_named(bytes, headers, b"transfer-encoding"),
+        fields.lengths.count,
+        fields.codings.count,
+        fields.lengths.first.of(bytes),
+        fields.codings.first.of(bytes),
     )
 }
 
@@ -156,11 +214,12 @@ pub fn ask_frame(
     if target != b"/ojp".as_slice() {
         return Frame::Refused(Refusal::Target);
     }
-    let hosts = count_named(bytes, headers, b"host");
+    let fields = fields_of(bytes, headers);
+    let hosts = fields.hosts.count;
     if hosts > 1 || (hosts == 0 && minor == 1) {
         return Frame::Refused(Refusal::Host);
     }
-    frame_of(BODY_LIMIT, minor, bytes, headers)
+    frame_of(BODY_LIMIT, minor, bytes, fields)
 }
 
 /// The frame of a reply's body; a status other than 200 is refused.
@@ -169,7 +228,7 @@ pub fn reply_frame(code: u16, minor: u8, bytes: &[u8], headers: &[HeaderSpan]) -
     ensures { result ≡ reply_by code minor (map (header_bytes bytes.now) headers.now) }
 {
     if code == 200 {
-        frame_of(u64::MAX, minor, bytes, headers)
+        frame_of(u64::MAX, minor, bytes, fields_of(bytes, headers))
     } else {
         Frame::Refused(Refusal::Head)
     }

@@ -9,7 +9,6 @@ mod fields;
 mod head;
 pub mod laws;
 mod machine;
-mod outcome;
 pub mod refusal;
 mod reply;
 mod scan;

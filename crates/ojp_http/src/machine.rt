@@ -8,8 +8,7 @@ ghost use Rattle.ojp_http.specs.Scanned.{no_lines, scan_step};
 ghost use Rattle.ojp_http.specs.declared.machine.Place.TheVariants.{Head, ReplyHead, Content, Line, Data, Return, Trailing, Whole};
 
 use crate::fields::BODY_LIMIT;
-use crate::head::{request_outcome, response_outcome, trailer_outcome};
-use crate::outcome::HeadOutcome;
+use crate::head::{request_frame, response_frame, trailer_end};
 use crate::refusal::{Frame, Refusal};
 use crate::scan::Scan;
 use httparse::{Status, parse_chunk_size};
@@ -133,11 +132,10 @@ impl Framing {
         let Ok(()) = self.keep(byte) else {
             return Err(Stop::NoMemory);
         };
-        match request_outcome(&self.kept, self.scan) {
-            HeadOutcome::Found(frame) => self.follow(Some(BODY_LIMIT), frame),
-            HeadOutcome::Malformed => Err(Stop::Refused(Refusal::Head)),
-            HeadOutcome::TooLarge => Err(Stop::Refused(Refusal::TooLargeHead)),
-            HeadOutcome::More => Ok(()),
+        match request_frame(&self.kept, self.scan) {
+            Ok(Some(frame)) => self.follow(Some(BODY_LIMIT), frame),
+            Ok(None) => Ok(()),
+            Err(refusal) => Err(Stop::Refused(refusal)),
         }
     }
 
@@ -150,11 +148,10 @@ impl Framing {
         let Ok(()) = self.keep(byte) else {
             return Err(Stop::NoMemory);
         };
-        match response_outcome(&self.kept, self.scan) {
-            HeadOutcome::Found(frame) => self.follow(None, frame),
-            HeadOutcome::Malformed => Err(Stop::Refused(Refusal::Head)),
-            HeadOutcome::TooLarge => Err(Stop::Refused(Refusal::TooLargeHead)),
-            HeadOutcome::More => Ok(()),
+        match response_frame(&self.kept, self.scan) {
+            Ok(Some(frame)) => self.follow(None, frame),
+            Ok(None) => Ok(()),
+            Err(refusal) => Err(Stop::Refused(refusal)),
         }
     }
 
@@ -167,14 +164,13 @@ impl Framing {
         let Ok(()) = self.keep(byte) else {
             return Err(Stop::NoMemory);
         };
-        match trailer_outcome(&self.kept, byte, self.scan) {
-            HeadOutcome::Found(()) => {
+        match trailer_end(&self.kept, byte, self.scan) {
+            Ok(Some(())) => {
                 self.place = Place::Whole;
                 Ok(())
             }
-            HeadOutcome::Malformed => Err(Stop::Refused(Refusal::Chunk)),
-            HeadOutcome::TooLarge => Err(Stop::Refused(Refusal::Chunk)),
-            HeadOutcome::More => Ok(()),
+            Ok(None) => Ok(()),
+            Err(refusal) => Err(Stop::Refused(refusal)),
         }
     }
 

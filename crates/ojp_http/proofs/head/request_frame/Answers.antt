@@ -1,0 +1,53 @@
+use Rattle.std.proofs.Common.{◌≡◌, Ok, Some, None, Err, sym, ap, ◌∙◌, arith, subst}
+use Rattle.httparse.specs.Grammar.{ReadsRequest, RequestHead}
+use Rattle.httparse.specs.declared.Status.TheVariants.{Complete}
+use Rattle.ojp_http.specs.declared.refusal.Refusal.TheVariants.{Head, TooLargeHead}
+use Rattle.ojp_http.specs.Fields.{ask_frame, ask_by}
+use Rattle.ojp_http.specs.Outcomes.{decided_by}
+use Rattle.ojp_http.proofs.Full.{not_true}
+use Rattle.ojp_http.proofs.Headed.{unparsed, too_many, decides_found, decides_rest, found_by, DecidesRest}
+use Rattle.ojp_http.proofs.Grammars.{requests, few_fields}
+use Rattle.ojp_http.proofs.head.request_frame.Goals as goal
+
+pub returns-then-not-scan : goal.returns-then-not-scan
+returns-then-not-scan c =
+    unparsed ReadsRequest (λ (h : RequestHead). h.fields) 66 Head TooLargeHead ask_frame requests c.args.bytes.now c.args.scan c.requires.grown c.requires.scanned (not_true c.args.scan.has_empty c.if-not-scan.true)
+    (sym c.is_full-is_full.ensures ∙ c.if-not-is_full.true)
+
+pub returns-in-Ok-Some : goal.returns-in-Ok-Some
+returns-in-Ok-Some c =
+    let is : decided_by c.parse_request-parsed.result c.is_full-is_full.result Head TooLargeHead ≡ Ok (Some c.in-Ok-Some.head) = cc in
+    let parsed = found_by c.parse_request-parsed.result c.is_full-is_full.result Head TooLargeHead c.in-Ok-Some.head is in
+    let found = rw parsed at c.parse_request-parsed.ensures.complete in
+    let within = rw parsed at c.parse_request-parsed.ensures.within in
+    let at = found.1 in
+    decides_found ReadsRequest (λ (h : RequestHead). h.fields) 66 Head TooLargeHead ask_frame 1 requests c.args.bytes.now c.requires.grown
+    found.0 _ c.ask_frame.result at.reads
+    (few_fields c.args.bytes.now c.parse_request-parsed.new.headers c.in-Ok-Some.head.headers found.0.fields at.fields (omega (arith, within.section.count_fits, c.parse_request-parsed.auto.headers)))
+    (c.ask_frame.ensures ∙ (λ i. ask_by ((c.of.ensures ∙ at.method) i) ((c.of-in-Ok-Some.ensures ∙ at.path) i) (at.version i) (at.fields i)))
+
+pub returns-in-Ok-None : goal.returns-in-Ok-None
+returns-in-Ok-None c =
+    let is : decided_by c.parse_request-parsed.result c.is_full-is_full.result Head TooLargeHead ≡ Ok None = cc in
+    subst (DecidesRest ReadsRequest (λ (h : RequestHead). h.fields) 66 Head TooLargeHead ask_frame c.args.bytes.now) is
+    (decides_rest ReadsRequest (λ (h : RequestHead). h.fields) 66 Head TooLargeHead ask_frame 1 requests c.args.bytes.now c.args.scan c.requires.grown c.requires.scanned
+    c.is_full-is_full.result (sym c.is_full-is_full.ensures) c.parse_request-parsed.result (record {
+      partial = c.parse_request-parsed.ensures.partial;
+      invalid = c.parse_request-parsed.ensures.invalid;
+      crowded = λ e.
+          let x = c.parse_request-parsed.ensures.too_many e in
+          too_many ReadsRequest (λ (h : RequestHead). h.fields) 66 Head TooLargeHead 1 requests (omega arith) c.args.bytes.now c.requires.grown x.0 x.1 x.2 x.3 x.4 x.5 (rw e at c.parse_request-parsed.ensures.no_room);
+    }))
+
+pub returns-in-Err : goal.returns-in-Err
+returns-in-Err c =
+    let is : decided_by c.parse_request-parsed.result c.is_full-is_full.result Head TooLargeHead ≡ Err c.in-Err.refusal = cc in
+    subst (DecidesRest ReadsRequest (λ (h : RequestHead). h.fields) 66 Head TooLargeHead ask_frame c.args.bytes.now) is
+    (decides_rest ReadsRequest (λ (h : RequestHead). h.fields) 66 Head TooLargeHead ask_frame 1 requests c.args.bytes.now c.args.scan c.requires.grown c.requires.scanned
+    c.is_full-is_full.result (sym c.is_full-is_full.ensures) c.parse_request-parsed.result (record {
+      partial = c.parse_request-parsed.ensures.partial;
+      invalid = c.parse_request-parsed.ensures.invalid;
+      crowded = λ e.
+          let x = c.parse_request-parsed.ensures.too_many e in
+          too_many ReadsRequest (λ (h : RequestHead). h.fields) 66 Head TooLargeHead 1 requests (omega arith) c.args.bytes.now c.requires.grown x.0 x.1 x.2 x.3 x.4 x.5 (rw e at c.parse_request-parsed.ensures.no_room);
+    }))
