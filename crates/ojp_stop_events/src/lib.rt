@@ -5,3 +5,6 @@ pub mod answers;
 mod calls;
 
 pub use answers::events;
+
+#[cfg(test)]
+mod tests;
