@@ -1,3 +1,4 @@
+pub mod Answered
 pub mod Words
 pub mod Commands
 pub mod Lent

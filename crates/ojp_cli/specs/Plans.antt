@@ -12,7 +12,7 @@ use Rattle.ojp_grammar.specs.Answering.{SpellsAsk, SpellsDelivery}
 use Rattle.ojp_grammar.specs.Places.{IsRefused}
 use Rattle.ojp_grammar.specs.declared.refusals.Reason.{Reason}
 use Rattle.ojp_grammar.specs.declared.refusals.Want.TheVariants as wants
-use Rattle.ojp_region.specs.Answered.{Answered}
+use Rattle.ojp_cli.specs.Answered.{Answered}
 use Rattle.ojp_outside.specs.Seen.{SourceView, SinkView, StoreView}
 use Rattle.ojp_cli.specs.Lent.{Lent, before, after, IsUnused, Gains, GainsInPart}
 use Rattle.ojp_cli.specs.Inputs.{IsDocumentOf, IsNoDocument, FailsToRead, IsReadInPart, IsHeard}

@@ -1,0 +1,5 @@
+pub mod AskFacts
+pub mod BoundFacts
+pub mod PairFacts
+pub mod PointListFacts
+pub mod ServedFacts

@@ -10,7 +10,8 @@ ghost use Rattle.ojp_grammar.specs.Places.{IsRefused};
 ghost use Rattle.ojp_grammar.specs.Reasons.{refusal_line};
 ghost use Rattle.ojp_http.specs.Responses.{is_answer_status};
 ghost use Rattle.ojp_scan.specs.Scans.{IsMadeFor};
-ghost use Rattle.ojp_region.specs.Answered.{Answered, Reads};
+ghost use Rattle.ojp_timetable.specs.Answers.{RegionAnswers};
+ghost use Rattle.ojp_region.specs.Requests.{Reads};
 
 use crate::answers::answer;
 use itoa::Buffer;
@@ -40,7 +41,7 @@ pub(crate) fn answer_body(
     requires made { IsMadeFor scan.old table.now }
     ensures made { IsMadeFor scan.new table.now }
     ensures status { IfOk result (λ response. IsTrue (is_answer_status response.status)) }
-    ensures answers { IfOk result (λ response. AnswersBody (Answered table.now) body.now response.status response.text.written) }
+    ensures answers { IfOk result (λ response. AnswersBody (RegionAnswers table.now) body.now response.status response.text.written) }
 {
     match read_ask(alloc, body) {
         Ok(ask) => {
@@ -57,6 +58,7 @@ pub(crate) fn answer_body(
 }
 
 /// The ask that the body spells, or where it is refused and why.
+#[tactic(auto, using(crate::proofs::AskFacts::well_ask))]
 fn read_ask(alloc: Global, body: &[u8]) -> Result<Ask, WholeRefused>
     ensures { Reads body.now result }
 {

@@ -4,6 +4,7 @@
 mod answers;
 mod bodies;
 mod serving;
+mod trips;
 
 pub use answers::answer;
 pub use serving::serve_one;

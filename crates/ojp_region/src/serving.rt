@@ -1,11 +1,13 @@
 //! One connection of a region's server.
 
-ghost use Rattle.std.specs.Prelude.{◌≡◌};
+ghost use Rattle.std.specs.Prelude.{◌≡◌, ◌⊎◌};
+ghost use Rattle.ojp_outside.specs.Causes.{Rests};
 ghost use Rattle.ojp_grammar.specs.Answering.{AnswersBody};
 ghost use Rattle.ojp_http.specs.Asking.{ReadsNoFurther};
 ghost use Rattle.ojp_http.specs.Connections.{Serves, wire};
 ghost use Rattle.ojp_scan.specs.Scans.{IsMadeFor};
-ghost use Rattle.ojp_region.specs.Answered.{Answered};
+ghost use Rattle.ojp_timetable.specs.Answers.{RegionAnswers};
+ghost use Rattle.ojp_region.specs.Requests.{IsAsked};
 
 use crate::bodies::answer_body;
 use ojp_http::{HttpRefusal, Served, give_up, read_request, refuse, respond};
@@ -26,8 +28,12 @@ pub fn serve_one<I: Source, O: Sink>(
 ) -> Served
     requires made { IsMadeFor scan.old table.now }
     ensures made { IsMadeFor scan.new table.now }
-    ensures serves { Serves (AnswersBody (Answered table.now))
+    ensures serves { Serves (AnswersBody (RegionAnswers table.now))
         (wire (I.seen input.old) (O.seen output.old)) (wire (I.seen input.new) (O.seen output.new)) result }
+    ensures complete { IsAsked (I.seen input.old).left
+        → Rests (I.seen input.old).faults (I.seen input.new).faults
+        → Rests (O.seen output.old).faults (O.seen output.new).faults
+        → (result ≡ Served.Answered 200) ⊎ (result ≡ Served.NoMemory) }
     ensures taken { ReadsNoFurther (I.seen input.old).left (I.seen input.new).left }
 {
     match read_request(alloc, input) {

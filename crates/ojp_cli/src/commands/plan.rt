@@ -13,7 +13,7 @@ use crate::input::{self, InputRefused, read_document};
 use ojp_encode::write;
 use ojp_grammar::refusals::Want;
 use ojp_outside::{MemSink, Sink, Source, Store, WriteFault, put_all};
-use ojp_region::answer;
+use crate::commands::answering::plan_answer;
 use ojp_scan::Scan;
 use ojp_timetable::table::Timetable;
 use ojp_values::{Ask, Doc, NoMemory};
@@ -60,12 +60,12 @@ fn read_request<I: Source>(alloc: Global, input: &mut I) -> Result<Ask, InputRef
     }
 }
 
-/// The document of the region's answer, in memory.
+/// The document of the answer, in memory.
 fn answer_text(alloc: Global, table: &Timetable, ask: &Ask) -> Result<MemSink, NoMemory>
     ensures { IfOk result (λ text. AnswersAs table.now ask.now text.written) }
 {
     let mut scan = Scan::new(alloc, table)?;
-    let delivery = answer(alloc, table, &mut scan, ask)?;
+    let delivery = plan_answer(alloc, table, &mut scan, ask)?;
     let mut text = MemSink::new(alloc, Vec::new(alloc));
     match write(&Doc::Delivery(delivery), &mut text) {
         Ok(()) => Ok(text),
