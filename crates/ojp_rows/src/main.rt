@@ -1,0 +1,73 @@
+//! Serves rows: each is a timetable and the body of a request, and its stored run has the responses that were
+//! worked out by hand. A row is told by its response to the body with its length, and by whether the body in
+//! one chunk, read byte by byte, has the same.
+#![tactic(auto)]
+
+ghost use Rattle.std.specs.Prelude.{◌<◌};
+
+use ojp_http::{Served, request};
+use ojp_outside::{MemSink, MemSource, StdSource, read_all};
+use ojp_region::serve_one;
+use ojp_scan::Scan;
+use ojp_timetable::table::Timetable;
+use std::alloc::Global;
+use std::process::ExitCode;
+use std::str;
+
+/// The most bytes of all rows.
+const MOST: usize = 1 << 24;
+
+fn main(rt: HostRuntime) -> ExitCode {
+    match run(rt) {
+        Some(()) => ExitCode::SUCCESS,
+        None => ExitCode::FAILURE,
+    }
+}
+
+/// Writes the responses to the rows of standard input; none where one is no row, or reading, writing or
+/// memory fails.
+fn run(rt: HostRuntime) -> Option<()> {
+    let alloc = rt.alloc();
+    let mut input = StdSource::new(rt.stdin());
+    let rows = read_all(alloc, &mut input, MOST).ok()?;
+    let rows = str::from_utf8(rows.as_slice()).ok()?;
+    for row in rows.split("====\n") {
+        let (table, body) = row.split_once("----\n")?;
+        let body = body.strip_suffix("\n")?;
+        let (end, output) = by_length(alloc, table, body)?;
+        let (chunk_end, chunk_output) = by_chunk(alloc, table, body)?;
+        let text = str::from_utf8(output.written()).ok()?;
+        println!(rt; "{end:?}\n{text}").ok()?;
+        let is_same = end == chunk_end && output.written() == chunk_output.written();
+        println!(rt; "in a chunk {is_same}").ok()?;
+    }
+    Some(())
+}
+
+/// How the body with its length was served, and what was written.
+fn by_length(alloc: Global, table: &str, body: &str) -> Option<(Served, MemSink)> {
+    let bytes = request(alloc, b"AA", body.as_bytes()).ok()?;
+    served(alloc, table, bytes.as_slice(), 4096)
+}
+
+/// How the body in one chunk was served, and what was written.
+fn by_chunk(alloc: Global, table: &str, body: &str) -> Option<(Served, MemSink)> {
+    let size = body.len();
+    let bytes = format!(in alloc;
+        "POST /ojp HTTP/1.1\r\nHost: AA\r\nTransfer-Encoding: chunked\r\n\r\n{size:x}\r\n{body}\r\n0\r\n\r\n"
+    ).ok()?;
+    served(alloc, table, bytes.as_bytes(), 1)
+}
+
+/// How a connection with these bytes was served, in reads of at most `most` bytes, and what was written.
+fn served(alloc: Global, table: &str, bytes: &[u8], most: usize) -> Option<(Served, MemSink)>
+    requires { 0 < most }
+{
+    let table = Timetable::read(alloc, table.as_bytes()).ok()?;
+    let mut scan = Scan::new(alloc, &table).ok()?;
+    let bytes = Vec::from_slice(alloc, bytes).ok()?;
+    let mut input = MemSource::new(bytes, most, Vec::new(alloc));
+    let mut output = MemSink::new(alloc, Vec::new(alloc));
+    let served = serve_one(alloc, &table, &mut scan, &mut input, &mut output);
+    Some((served, output))
+}
