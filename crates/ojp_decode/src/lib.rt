@@ -6,6 +6,3 @@ mod reader;
 
 pub use fed::{Fed, ReadRefused};
 pub use reader::Reader;
-
-#[cfg(test)]
-mod tests;

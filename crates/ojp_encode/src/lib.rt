@@ -15,6 +15,3 @@ mod stop_events;
 mod trips;
 
 pub use documents::{length, write};
-
-#[cfg(test)]
-mod tests;

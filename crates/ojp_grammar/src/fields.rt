@@ -87,6 +87,3 @@ fn read_event_kind(text: &[u8]) -> Option<EventKind>
         None
     }
 }
-
-#[cfg(test)]
-mod tests;

@@ -56,6 +56,3 @@ fn refused(at: usize, reason: Reason) -> WholeRefused
         reason,
     })
 }
-
-#[cfg(test)]
-mod tests;

@@ -128,20 +128,3 @@ pub fn markup_is_prefix_free()
 pub fn elements_are_numbered()
     ensures { IsTrue (are_numbered 2 ELEMENTS) }
 {}
-
-#[cfg(test)]
-mod tests {
-    use super::*;
-    use std::test::Fail;
-
-    #[test]
-    fn texts_are_found(rt: HostRuntime) -> Result<(), Fail> {
-        let table = markup();
-        assert_eq!(rt; table.at(0).len(), 127);
-        assert_eq!(rt; table.place_of(b"</OJP>"), Some(1));
-        assert_eq!(rt; table.place_of(b"</OJP> "), None);
-        assert_eq!(rt; table.front_of(b"<ojp:Trip><ojp:Duration>"), Some(48));
-        assert_eq!(rt; table.front_of(b"\n<ojp:Trip>"), None);
-        Ok(())
-    }
-}
