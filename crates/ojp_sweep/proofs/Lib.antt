@@ -7,4 +7,6 @@ pub mod RoundFacts
 pub mod NextFacts
 pub mod BeginFacts
 pub mod SearchFacts
+pub mod RankFacts
+pub mod OrderFacts
 pub mod RowFacts

@@ -1,8 +1,9 @@
 //! The connections of a network: the hops of its journeys, in the order of their departures.
 
 ghost use Rattle.std.specs.Prelude.{◌≡◌, ℕ, ◌+◌, ◌<◌, ◌^◌, length, slice_index, IfOk};
-ghost use Rattle.ojp_sweep.specs.Rows.{AreRows, AreChanges, IsNetworkOf, AreKeys, AreOfRows, AreGathered};
+ghost use Rattle.ojp_sweep.specs.Rows.{AreRows, AreChanges, IsNetworkOf};
 
+use crate::rows::by_departure;
 use std::alloc::{AllocError, Global};
 
 /// A hop of a journey from a call to the next: its ends are places, its times offsets in a day.
@@ -52,9 +53,6 @@ pub struct Asked {
     pub in_round: bool,
 }
 
-/// More than there are rows.
-const ROWS: u64 = 4_294_967_296;
-
 impl Connections {
     /// The network of the rows, without walks.
     pub fn new(
@@ -68,9 +66,7 @@ impl Connections {
         requires places { length changes.items < 2 ^ 32 }
         ensures { IfOk result (λ net. IsNetworkOf net rows.now services.items changes.items) }
     {
-        let mut keys = keys_of(alloc, rows)?;
-        keys.sort()?;
-        let sorted = gather(alloc, rows, keys.as_slice())?;
+        let sorted = by_departure(alloc, rows)?;
         let firsts = zeros(alloc, changes.len() + 1)?;
         Ok(Connections {
             sorted,
@@ -80,30 +76,6 @@ impl Connections {
             firsts,
         })
     }
-}
-
-/// A number for each row that rises by departure and then by row.
-fn keys_of(alloc: Global, rows: &[Connection]) -> Result<Vec<u64>, AllocError>
-    requires { length rows.now + 1 < 2 ^ 32 }
-    ensures { IfOk result (λ keys. AreKeys rows.now keys.items (length rows.now)) }
-{
-    let mut keys = Vec::with_capacity(alloc, rows.len())?;
-    'rows: for (index, row) in rows.iter().enumerate() {
-        keys.push(u64::from(row.departs) * ROWS + index as u64)?;
-    }
-    Ok(keys)
-}
-
-/// The rows of the keys.
-fn gather(alloc: Global, rows: &[Connection], keys: &[u64]) -> Result<Vec<Connection>, AllocError>
-    requires { AreOfRows rows.now keys.now }
-    ensures { IfOk result (λ sorted. AreGathered rows.now keys.now sorted.items (length keys.now)) }
-{
-    let mut sorted = Vec::with_capacity(alloc, keys.len())?;
-    'keys: for key in keys {
-        sorted.push(rows[(*key % ROWS) as usize])?;
-    }
-    Ok(sorted)
 }
 
 /// So many zeros.

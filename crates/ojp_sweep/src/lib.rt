@@ -8,6 +8,8 @@
 mod connections;
 mod labels;
 mod progress;
+mod ranks;
+mod rows;
 mod searches;
 mod sweeps;
 
