@@ -1,5 +1,6 @@
 -- How many of some fields have a name, and the value of the first.
 use Rattle.std.proofs.Common.{◌≡◌, ℕ, ◌+◌, ◌<◌, ◌≤◌, ◌==◌, ◌&&◌, Bool, true, false, if◌then◌else◌, cond, List, [], ◌∷◌, ◌++◌, length, map, take, get_or, refl, sym, ap, ◌∙◌, subst, arith, zero-add}
+use Rattle.std.specs.Prelude.{All}
 use Rattle.std.proofs.lemmas.Bool.Decides.{nat_tests}
 use Rattle.std.proofs.lemmas.List.Sums.{sum_by-append, sum_by-cons}
 use Rattle.std.proofs.lemmas.List.{take_more, map-append}
@@ -66,13 +67,12 @@ tally_behind name bytes before header named now b is header_within tally count f
     }
 
 -- one field more
-pub tally_with : (name bytes : List ℕ) (headers : List HeaderSpan) (i : ℕ) (header : HeaderSpan) (named now : Named) → i < length headers → header ≡ get_or headers i header
-    → IsHeaderWithin (length bytes) header → IsTally name bytes (take i headers) named → Counts name bytes header named now → IsTally name bytes (take (i + 1) headers) now
-tally_with name bytes headers i header named now below is header_within tally counts =
-    let all : take (i + 1) headers ≡ take i headers ++ header ∷ [] =
-    take_more headers i header below ∙ ap (λ (h : HeaderSpan). take i headers ++ h ∷ []) (sym is) in
-    subst (λ (l : List HeaderSpan). IsTally name bytes l now) (sym all)
-    (tally_behind name bytes (take i headers) header named now (is_same (span_bytes bytes header.name) name) refl header_within tally counts.count counts.first)
+pub tally_with : (name bytes : List ℕ) (headers : List HeaderSpan) (i : ℕ) (d : HeaderSpan) (named now : Named) → i < length headers → All (IsHeaderWithin (length bytes)) headers
+    → IsTally name bytes (take i headers) named → Counts name bytes (get_or headers i d) named now → IsTally name bytes (take (i + 1) headers) now
+tally_with name bytes headers i d named now below within tally counts =
+    let header = get_or headers i d in
+    subst (λ (l : List HeaderSpan). IsTally name bytes l now) (sym (take_more headers i d below))
+    (tally_behind name bytes (take i headers) header named now (is_same (span_bytes bytes header.name) name) refl (within i d below) tally counts.count counts.first)
 
 counted_few : (b : Bool) (count now i : ℕ) → now ≡ (if b then count + 1 else count) → count ≤ i → now ≤ i + 1
 counted_few true count now i is few = omega (arith, is, few)
