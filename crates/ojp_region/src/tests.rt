@@ -8,7 +8,7 @@ use ojp_http::{Served, request};
 use ojp_outside::{MemSink, MemSource};
 use ojp_scan::Scan;
 use ojp_timetable::table::Timetable;
-use std::alloc::Global;
+use std::alloc::{AllocError, Global};
 use std::test::Fail;
 
 const TABLE: &str = "ojp-timetable 1\nregion AA\nzone +00:00\nstop AA:a 60 Alder\n";
@@ -24,13 +24,25 @@ fn served(
 ) -> Result<(Served, MemSink), Fail>
     requires { 0 < most }
 {
+    let mut input = source(alloc, bytes, most, reads)?;
+    let mut output = MemSink::new(alloc, Vec::from_slice(alloc, writes)?);
+    let served = served_by(alloc, &mut input, &mut output)?;
+    Ok((served, output))
+}
+
+/// A source of these bytes.
+fn source(alloc: Global, bytes: &[u8], most: usize, reads: &[u64]) -> Result<MemSource, AllocError>
+    requires { 0 < most }
+{
+    let bytes = Vec::from_slice(alloc, bytes)?;
+    Ok(MemSource::new(bytes, most, Vec::from_slice(alloc, reads)?))
+}
+
+/// How the connection was served by the small timetable.
+fn served_by(alloc: Global, input: &mut MemSource, output: &mut MemSink) -> Result<Served, Fail> {
     let table = Timetable::read(alloc, TABLE.as_bytes())?;
     let mut scan = Scan::new(alloc, &table)?;
-    let bytes = Vec::from_slice(alloc, bytes)?;
-    let mut input = MemSource::new(bytes, most, Vec::from_slice(alloc, reads)?);
-    let mut output = MemSink::new(alloc, Vec::from_slice(alloc, writes)?);
-    let served = serve_one(alloc, &table, &mut scan, &mut input, &mut output);
-    Ok((served, output))
+    Ok(serve_one(alloc, &table, &mut scan, input, output))
 }
 
 #[test]
@@ -70,13 +82,18 @@ fn a_long_body_is_read_whole(rt: HostRuntime) -> Result<(), Fail> {
 }
 
 #[test]
-fn faults_of_the_connection(rt: HostRuntime) -> Result<(), Fail> {
+fn a_read_that_fails(rt: HostRuntime) -> Result<(), Fail> {
     let alloc = rt.alloc();
-    let bytes = request(alloc, b"AA", b"x")?;
-    let (end, output) = served(alloc, bytes.as_slice(), 7, &[3], &[])?;
+    let (end, output) = served(alloc, b"GET /ojp HTTP/1.1\r\n\r\n", 7, &[3], &[])?;
     assert_eq!(rt; end, Served::ReadFault);
     assert!(rt; output.written().is_empty());
-    let (end, output) = served(alloc, bytes.as_slice(), 7, &[], &[2])?;
+    Ok(())
+}
+
+#[test]
+fn a_write_that_fails(rt: HostRuntime) -> Result<(), Fail> {
+    let alloc = rt.alloc();
+    let (end, output) = served(alloc, b"GET /ojp HTTP/1.1\r\n\r\n", 7, &[], &[2])?;
     assert_eq!(rt; end, Served::WriteFault);
     assert!(rt; output.written().ends_with(b"Connection: close\r\n\r\n"));
     Ok(())

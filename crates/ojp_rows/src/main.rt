@@ -32,16 +32,22 @@ fn run(rt: HostRuntime) -> Option<()> {
     let rows = read_all(alloc, &mut input, MOST).ok()?;
     let rows = str::from_utf8(rows.as_slice()).ok()?;
     for row in rows.split("====\n") {
-        let (table, body) = row.split_once("----\n")?;
-        let body = body.strip_suffix("\n")?;
-        let (end, output) = by_length(alloc, table, body)?;
-        let (chunk_end, chunk_output) = by_chunk(alloc, table, body)?;
-        let text = str::from_utf8(output.written()).ok()?;
-        println!(rt; "{end:?}\n{text}").ok()?;
-        let is_same = end == chunk_end && output.written() == chunk_output.written();
-        println!(rt; "in a chunk {is_same}").ok()?;
+        tell(&rt, row)?;
     }
     Some(())
+}
+
+/// Writes the response to a row, and whether the other form has the same.
+fn tell(rt: &HostRuntime, row: &str) -> Option<()> {
+    let alloc = rt.alloc();
+    let (table, body) = row.split_once("----\n")?;
+    let body = body.strip_suffix("\n")?;
+    let (end, output) = by_length(alloc, table, body)?;
+    let text = str::from_utf8(output.written()).ok()?;
+    println!(rt; "{end:?}\n{text}").ok()?;
+    let (chunk_end, chunk_output) = by_chunk(alloc, table, body)?;
+    let is_same = end == chunk_end && output.written() == chunk_output.written();
+    println!(rt; "in a chunk {is_same}").ok()
 }
 
 /// How the body with its length was served, and what was written.
@@ -63,11 +69,21 @@ fn by_chunk(alloc: Global, table: &str, body: &str) -> Option<(Served, MemSink)>
 fn served(alloc: Global, table: &str, bytes: &[u8], most: usize) -> Option<(Served, MemSink)>
     requires { 0 < most }
 {
-    let table = Timetable::read(alloc, table.as_bytes()).ok()?;
-    let mut scan = Scan::new(alloc, &table).ok()?;
     let bytes = Vec::from_slice(alloc, bytes).ok()?;
     let mut input = MemSource::new(bytes, most, Vec::new(alloc));
     let mut output = MemSink::new(alloc, Vec::new(alloc));
-    let served = serve_one(alloc, &table, &mut scan, &mut input, &mut output);
+    let served = served_by(alloc, table, &mut input, &mut output)?;
     Some((served, output))
+}
+
+/// How the connection was served by the timetable.
+fn served_by(
+    alloc: Global,
+    table: &str,
+    input: &mut MemSource,
+    output: &mut MemSink,
+) -> Option<Served> {
+    let table = Timetable::read(alloc, table.as_bytes()).ok()?;
+    let mut scan = Scan::new(alloc, &table).ok()?;
+    Some(serve_one(alloc, &table, &mut scan, input, output))
 }
