@@ -1,11 +1,17 @@
 -- Lists that rise, read by number.
-use Rattle.std.proofs.Common.{◌≡◌, ℕ, zero, suc, ◌<◌, Bool, true, List, [], ◌∷◌, Some, refl, sym, subst, arith, slice_get, inl, inr}
+use Rattle.std.proofs.Common.{◌≡◌, ℕ, zero, suc, ◌<◌, Bool, true, false, cond, List, [], ◌∷◌, Option, Some, None, ap, ◌∙◌, refl, sym, subst, arith, slice_get, inl, inr}
+use Rattle.std.proofs.lemmas.Bool.{cases_Bool}
 use Rattle.std.proofs.lemmas.Option.{none-some, same_Some}
+use Rattle.std.specs.List.{filter, find}
+use Rattle.std.specs.Option.{option_to_list}
 use Rattle.ojp_values.specs.Lists.{Among, Each, IsRising}
-use Rattle.ojp_values.specs.Texts.{same, text_lt}
+use Rattle.ojp_values.specs.Texts.{Text, same, text_lt}
 use Rattle.ojp_values.specs.declared.trips.Point.{Point}
 use Rattle.ojp_timetable.proofs.Orders.{IsOrder, text_order, then_order}
-use Rattle.ojp_exchange.specs.Kept.{entry_lt, entry_same}
+use Rattle.ojp_timetable.proofs.TextFacts.{is_same, same_is}
+use Rattle.ojp_timetable.specs.Points.{point_lt}
+use Rattle.ojp_timetable.specs.Tables.{Timetable, point_of}
+use Rattle.ojp_exchange.specs.Kept.{entry_lt, entry_same, points_at, points_listed}
 
 pub entry_order : IsOrder entry_lt entry_same
 entry_order =
@@ -33,3 +39,30 @@ module _ {X : Type 0} where
   rising_at lt (z ∷ zs) zero (suc k) x y h a b l =
       subst (λ (w : X). lt w y ≡ true) (same_Some z x a) (each_at (λ (w : X). lt z w ≡ true) zs k y h.0 b)
   rising_at lt (z ∷ zs) (suc i) (suc k) x y h a b l = rising_at lt zs i k x y h.1 a b (omega (arith, l))
+
+text_stop : IsOrder point_lt (λ (x : Point) (y : Point). same x.stop y.stop)
+text_stop = text_order (λ (x : Point). x.stop)
+
+-- at most one of the points that rise by reference is at the stop
+one_listed : (stop : Text) (points : List Point) → IsRising point_lt points → filter (λ (point : Point). same stop point.stop) points ≡ option_to_list (find (λ (point : Point). same stop point.stop) points)
+one_listed stop [] rise = refl
+one_listed stop (x ∷ xs) rise = pick (same stop x.stop) refl (one_listed stop xs rise.1)
+  where
+    apart : (y : Point) → text_lt x.stop y.stop ≡ true → same stop x.stop ≡ true → same stop y.stop ≡ false
+    apart y later e = elim (cases_Bool (same stop y.stop)) [
+      | inl t ↦ absurd (text_stop.apart x y later (is_same x.stop y.stop (sym (same_is stop x.stop e) ∙ same_is stop y.stop t)))
+      | inr t ↦ t
+    ]
+    none : (ys : List Point) → Each (λ (y : Point). text_lt x.stop y.stop ≡ true) ys → same stop x.stop ≡ true → filter (λ (point : Point). same stop point.stop) ys ≡ []
+    none [] later e = refl
+    none (y ∷ ys) later e = ap (λ (b : Bool). cond b (y ∷ filter (λ (point : Point). same stop point.stop) ys) (filter (λ (point : Point). same stop point.stop) ys)) (apart y later.0 e) ∙ none ys later.1 e
+    pick : (b : Bool) → same stop x.stop ≡ b → filter (λ (point : Point). same stop point.stop) xs ≡ option_to_list (find (λ (point : Point). same stop point.stop) xs)
+        → cond b (x ∷ filter (λ (point : Point). same stop point.stop) xs) (filter (λ (point : Point). same stop point.stop) xs) ≡ option_to_list (cond b (Some x) (find (λ (point : Point). same stop point.stop) xs))
+    pick true e rest = ap (λ (ys : List Point). x ∷ ys) (none xs rise.0 e)
+    pick false e rest = rest
+
+-- what a region lists at the place is what is at the place among its points
+pub listed_is : (table : Timetable) (place : Option Text) → IsRising point_lt table.points → points_at place table.points ≡ points_listed table place
+unfolding point_of
+listed_is table None rise = refl
+listed_is table (Some stop) rise = one_listed stop table.points rise

@@ -1,12 +1,14 @@
 -- What a book keeps: the exchange points of all regions by rising stop and region.
 use Rattle.std.specs.Prelude.{◌≡◌, ◌≢◌, ℕ, ◌≤◌, ◌&&◌, ◌||◌, Bool, true, List, [], ◌∷◌, map, Option, Some, None, if◌then◌else◌, length, slice_get}
 use Rattle.std.specs.List.{count_by, filter, flat_map}
+use Rattle.std.specs.Option.{option_to_list}
 use Rattle.ojp_values.specs.Limits.{IsChange, IsWellPoint}
 use Rattle.ojp_values.specs.Lists.{Among, Each, IsRising}
 use Rattle.ojp_values.specs.Texts.{Text, is_exchange, same, text_lt}
 use Rattle.ojp_values.specs.declared.trips.Neighbour.{Neighbour}
 use Rattle.ojp_values.specs.declared.trips.Point.{Point}
 use Rattle.ojp_timetable.specs.Points.{IsPointOf}
+use Rattle.ojp_timetable.specs.Tables.{Timetable, point_of}
 use Rattle.ojp_exchange.specs.Book.{Book, HasChange, IsAgreed, Link, Spot, link_lt, spot_lt}
 
 -- exchange points of several regions are ordered by stop and region
@@ -90,6 +92,11 @@ regions_of book stop = map (λ (spot : Spot). spot.region) (filter (λ (spot : S
 abbrev pub points_at : Option Text → List Point → List Point
 points_at None points = points
 points_at (Some stop) points = filter (λ (point : Point). same stop point.stop) points
+
+-- all points of a region, or the one at the place, if it is one
+abbrev pub points_listed : Timetable → Option Text → List Point
+points_listed table None = table.points
+points_listed table (Some stop) = option_to_list (point_of table stop)
 
 -- the points are those of the book, by stop and region
 pub record ArePointsOf (book : Book) (points : List Point) : Type 0 where
