@@ -11,14 +11,13 @@ use Rattle.ojp_values.specs.declared.trips.Neighbour.{Neighbour}
 use Rattle.ojp_values.specs.declared.trips.Point.{Point}
 use Rattle.ojp_timetable.specs.Points.{IsPointOf, neighbour_lt}
 use Rattle.ojp_timetable.proofs.Orders.{IsOrder, text_order}
-use Rattle.ojp_timetable.proofs.ReadFacts.{among_at, at_among}
 use Rattle.ojp_timetable.proofs.TextFacts.{is_same, same_is}
 use Rattle.ojp_exchange.specs.declared.spots.Edge.{Edge}
 use Rattle.ojp_exchange.specs.Points.{HasNeighbour, HasNoNeighbour, IsStretch}
 use Rattle.ojp_exchange.specs.Places.{edge_to}
 use Rattle.ojp_exchange.specs.Tables.{AreChanges, AreInOrder, IsChangeAt}
-use Rattle.ojp_exchange.proofs.MadeFacts.{among_either, among_left, among_right}
-use Rattle.ojp_exchange.proofs.RisingFacts.{each_among, rising_at}
+use Rattle.ojp_values.proofs.ListFacts.{among_append, among_append_left, among_append_right}
+use Rattle.ojp_exchange.proofs.RisingFacts.{rising_once}
 
 -- ---- a code is declared once
 
@@ -26,17 +25,7 @@ neighbour_order : IsOrder neighbour_lt (λ (x : Neighbour) (y : Neighbour). same
 neighbour_order = text_order (λ (x : Neighbour). x.code)
 
 pub one_neighbour : (neighbours : List Neighbour) (x y : Neighbour) → IsRising neighbour_lt neighbours → Among x neighbours → Among y neighbours → x.code ≡ y.code → x ≡ y
-one_neighbour neighbours x y rise a b e =
-    let i = at_among neighbours x a in
-    let k = at_among neighbours y b in
-    let tie = is_same x.code y.code e in
-    elim (cases_lt i.0 k.0) [
-      | inl l ↦ absurd (neighbour_order.apart x y (rising_at neighbour_lt neighbours i.0 k.0 x y rise i.1 k.1 l) tie)
-      | inr g ↦ elim (eq-or-lt_of_le g) [
-        | inl f ↦ same_Some x y (sym i.1 ∙ (ap (slice_get neighbours) (sym f) ∙ k.1))
-        | inr m ↦ absurd (neighbour_order.apart y x (rising_at neighbour_lt neighbours k.0 i.0 y x rise k.1 i.1 m) (neighbour_order.back x y tie))
-      ]
-    ]
+one_neighbour neighbours x y rise a b e = rising_once neighbour_lt (λ (v : Neighbour) (w : Neighbour). same v.code w.code) neighbour_order neighbours x y rise a b (is_same x.code y.code e)
 
 -- ---- the changes that were found so far
 
@@ -83,7 +72,7 @@ pub one_there : (points : List Point) (place from other change : ℕ) (here ther
 one_there points place from other change here there old new new' are here_at there_at low stop rise has pushed = record {
   more = are.more ++ edge_to other change ∷ [];
   grown = pushed ∙ (ap (λ (es : List Edge). es ++ edge_to other change ∷ []) are.grown ∙ append_assoc old are.more (edge_to other change ∷ []));
-  only = λ at time a. elim (among_either (edge_to at time) are.more (edge_to other change ∷ []) a) [
+  only = λ at time a. elim (among_append (edge_to at time) are.more (edge_to other change ∷ []) a) [
     | inl l ↦ let it = are.only at time l in (it.0, omega (arith, it.1), it.2)
     | inr r ↦ elim r [
       | inl e ↦
@@ -107,14 +96,14 @@ one_there points place from other change here there old new new' are here_at the
     ]
   ];
   all = λ at time from_low high is. elim (split at other high) [
-    | inl l ↦ among_left (edge_to at time) are.more _ (are.all at time from_low l is)
+    | inl l ↦ among_append_left (edge_to at time) are.more _ (are.all at time from_low l is)
     | inr e ↦
         let one : is.there ≡ there = same_Some is.there there (sym is.there_at ∙ (ap (slice_get points) e ∙ there_at)) in
         let two : is.here ≡ here = same_Some is.here here (sym is.here_at ∙ here_at) in
         let same_one : is.neighbour ≡ has.0 =
         one_neighbour there.neighbours is.neighbour has.0 rise (subst (λ (p : Point). Among is.neighbour p.neighbours) one is.declared) has.1 (is.code ∙ (ap (λ (p : Point). p.region) two ∙ sym has.2)) in
         let time_is : time ≡ change = sym is.time ∙ (ap (λ (n : Neighbour). n.change) same_one ∙ has.3) in
-        among_right (edge_to at time) are.more _ (inl (λ i. record { to = e i; change = time_is i }))
+        among_append_right (edge_to at time) are.more _ (inl (λ i. record { to = e i; change = time_is i }))
   ];
 }
   where

@@ -6,6 +6,7 @@ use Rattle.std.proofs.lemmas.Bool.{cases_Bool}
 use Rattle.std.proofs.lemmas.List.Sorted.{Contains-permutation, IsPermutation-sym, sum_by-IsPermutation}
 use Rattle.std.proofs.lemmas.List.Sums.{sum_by-append, sum_by-cons}
 use Rattle.std.proofs.lemmas.Option.{get_or_from_slice_get, slice_get-get_or, slice_get_within}
+use Rattle.ojp_values.proofs.ListFacts.{among_append, among_append_left, among_append_right}
 use Rattle.ojp_values.specs.Lists.{Among, Each, IsRising}
 use Rattle.ojp_values.specs.Limits.{IsWellPoint}
 use Rattle.ojp_values.specs.Texts.{Text, same, text_lt}
@@ -21,19 +22,6 @@ use Rattle.ojp_exchange.specs.Joins.{AreWellLists, HaveOwnCodes, times}
 use Rattle.ojp_exchange.specs.Kept.{AreKept, book_of, entry_lt, entry_same, link_of, links_of, spot_of}
 use Rattle.ojp_exchange.proofs.RisingFacts.{each_among, each_of, entry_order}
 use Rattle.ojp_exchange.proofs.SortFacts.{NoneBehind, count_more, count_none, count_yes, none_counted, rising_counts, rising_from}
-
-module _ {X : Type 0} where
-  pub among_left : (x : X) (xs ys : List X) → Among x xs → Among x (xs ++ ys)
-  among_left x [] ys h = absurd h
-  among_left x (y ∷ xs) ys h = elim h [ inl e ↦ inl e | inr t ↦ inr (among_left x xs ys t) ]
-
-  pub among_right : (x : X) (xs ys : List X) → Among x ys → Among x (xs ++ ys)
-  among_right x [] ys h = h
-  among_right x (y ∷ xs) ys h = inr (among_right x xs ys h)
-
-  pub among_either : (x : X) (xs ys : List X) → Among x (xs ++ ys) → Among x xs ⊎ Among x ys
-  among_either x [] ys h = inr h
-  among_either x (y ∷ xs) ys h = elim h [ inl e ↦ inl (inl e) | inr t ↦ elim (among_either x xs ys t) [ inl l ↦ inl (inr l) | inr r ↦ inr r ] ]
 
 -- ---- a list and its permutation have the same elements
 
@@ -63,7 +51,7 @@ module _ {X : Type 0} where
 
   pub among_flat : {Y : Type 0} (f : X → List Y) (xs : List X) (y : Y) → Among y (flat_map f xs) → (x : X) × Among x xs × Among y (f x)
   among_flat f [] y a = absurd a
-  among_flat f (x ∷ xs) y a = elim (among_either y (f x) (flat_map f xs) a) [
+  among_flat f (x ∷ xs) y a = elim (among_append y (f x) (flat_map f xs) a) [
     | inl l ↦ (x, inl refl, l)
     | inr r ↦ let found = among_flat f xs y r in (found.0, inr found.1, found.2)
   ]
@@ -71,8 +59,8 @@ module _ {X : Type 0} where
   pub flat_among : {Y : Type 0} (f : X → List Y) (xs : List X) (x : X) (y : Y) → Among x xs → Among y (f x) → Among y (flat_map f xs)
   flat_among f [] x y a h = absurd a
   flat_among f (z ∷ xs) x y a h = elim a [
-    | inl e ↦ among_left y (f z) (flat_map f xs) (subst (λ (w : X). Among y (f w)) e h)
-    | inr t ↦ among_right y (f z) (flat_map f xs) (flat_among f xs x y t h)
+    | inl e ↦ among_append_left y (f z) (flat_map f xs) (subst (λ (w : X). Among y (f w)) e h)
+    | inr t ↦ among_append_right y (f z) (flat_map f xs) (flat_among f xs x y t h)
   ]
 
   pub count_map : {Y : Type 0} (f : X → Y) (p : Y → Bool) (xs : List X) → count_by p (map f xs) ≡ count_by (λ x. p (f x)) xs
@@ -190,7 +178,7 @@ links_here x (n ∷ ns) h = (
 rise_append : (xs ys : List Link) → IsRising link_lt xs → IsRising link_lt ys → ((x y : Link) → Among x xs → Among y ys → link_lt x y ≡ true) → IsRising link_lt (xs ++ ys)
 rise_append [] ys a b h = b
 rise_append (x ∷ xs) ys a b h = (
-  each_of (λ (l : Link). link_lt x l ≡ true) (xs ++ ys) (λ l i. elim (among_either l xs ys i) [
+  each_of (λ (l : Link). link_lt x l ≡ true) (xs ++ ys) (λ l i. elim (among_append l xs ys i) [
     | inl k ↦ each_among (λ (w : Link). link_lt x w ≡ true) xs l a.0 k
     | inr k ↦ h x l (inl refl) k
   ]),

@@ -13,7 +13,7 @@ use Rattle.ojp_timetable.proofs.ReadFacts.{among_at, at_among, read_once}
 use Rattle.ojp_timetable.proofs.TextFacts.{is_same, same_is}
 use Rattle.ojp_exchange.specs.Kept.{HasNoPoint, IsPointAt, Says, SaysNothing, entry_lt, entry_same}
 use Rattle.ojp_exchange.specs.Points.{HasNeighbour, HasNoNeighbour}
-use Rattle.ojp_exchange.proofs.RisingFacts.{entry_order, rising_at}
+use Rattle.ojp_exchange.proofs.RisingFacts.{entry_order, rising_at, rising_once, up_to}
 
 -- what is looked for
 abbrev pub key_of : Text → Text → Point
@@ -39,15 +39,12 @@ pub upper_half : (points : List Point) (stop region : Text) (low high middle : �
 upper_half points stop region low high middle at rise halved inside read before = record {
   order = omega (arith, inside);
   within = halved.within;
-  below = λ k x a l. elim (eq-or-lt_of_le (below_next k middle l)) [
+  below = λ k x a l. elim (eq-or-lt_of_le (up_to k middle l)) [
     | inl e ↦ subst (λ (y : Point). entry_lt y (key_of stop region) ≡ true) (read_once points middle k at x (sym e) read a) before
     | inr m ↦ entry_order.carried x at (key_of stop region) (rising_at entry_lt points k middle x at rise a read m) before
   ];
   above = halved.above;
 }
-  where
-    below_next : (k n : ℕ) → k < n + 1 → k ≤ n
-    below_next k n h = omega (arith, h)
 
 pub lower_half : (points : List Point) (stop region : Text) (low high middle : ℕ) (at : Point) → IsRising entry_lt points → AreHalved points stop region low high → low ≤ middle → middle < high
     → slice_get points middle ≡ Some at → entry_lt at (key_of stop region) ≡ false → ((at.stop ≡ stop) × (at.region ≡ region) → ⊥) → AreHalved points stop region low middle
@@ -82,17 +79,7 @@ not_there points stop region low high halved done x a s r =
 
 -- a point that is found is the only one of its region at its stop
 pub only_point : (points : List Point) (x y : Point) → IsRising entry_lt points → Among x points → Among y points → x.stop ≡ y.stop → x.region ≡ y.region → x ≡ y
-only_point points x y rise a b s r =
-    let i = at_among points x a in
-    let k = at_among points y b in
-    let t = tied x y.stop y.region s r in
-    elim (cases_lt i.0 k.0) [
-      | inl l ↦ absurd (entry_order.apart x y (rising_at entry_lt points i.0 k.0 x y rise i.1 k.1 l) t)
-      | inr g ↦ elim (eq-or-lt_of_le g) [
-        | inl e ↦ read_once points i.0 k.0 x y (sym e) i.1 k.1
-        | inr m ↦ absurd (entry_order.apart y x (rising_at entry_lt points k.0 i.0 y x rise k.1 i.1 m) (entry_order.back x y t))
-      ]
-    ]
+only_point points x y rise a b s r = rising_once entry_lt entry_same entry_order points x y rise a b (tied x y.stop y.region s r)
 
 pub says_none : (points : List Point) (stop region other : Text) → HasNoPoint points stop region → SaysNothing points stop region other
 says_none points stop region other none change says = none says.point says.listed says.at says.of
@@ -134,6 +121,3 @@ none_further neighbours code n at none read other k x a l = elim (eq-or-lt_of_le
   | inl e ↦ λ same_code. other (subst (λ (y : Neighbour). y.code ≡ code) (read_once neighbours k n x at e a read) same_code)
   | inr m ↦ none k x a m
 ]
-  where
-    up_to : (k n : ℕ) → k < n + 1 → k ≤ n
-    up_to k n h = omega (arith, h)

@@ -2,9 +2,8 @@
 use Rattle.std.proofs.Common.{◌≡◌, ℕ, ◌<◌, ◌&&◌, ◌||◌, Bool, true, false, List, Option, Some, None, map, length, refl, sym, ◌∙◌, ap, subst, arith, slice_get, is_some, option_map, inl, inr, true≢false}
 use Rattle.std.specs.Prelude.{MatchOption}
 use Rattle.std.specs.List.{list_any}
-use Rattle.std.proofs.lemmas.Bool.{and_from, and_parts, cases_Bool, cases_lt}
+use Rattle.std.proofs.lemmas.Bool.{and_from, and_parts, cases_Bool}
 use Rattle.std.proofs.lemmas.Option.{none-some, same_Some, slice_get-map}
-use Rattle.std.proofs.Math.Nat.{eq-or-lt_of_le}
 use Rattle.ojp_values.specs.Lists.{Among}
 use Rattle.ojp_values.specs.Texts.{Text, home, same, text_lt}
 use Rattle.ojp_values.specs.declared.trips.Point.{Point}
@@ -16,7 +15,7 @@ use Rattle.ojp_timetable.proofs.TextFacts.{is_same, same_is}
 use Rattle.ojp_exchange.specs.Book.{Book, Link, Spot, is_home, serves, spot_lt}
 use Rattle.ojp_exchange.specs.Kept.{HasNoPoint, IsPointAt, IsWellBook, book_of, spot_of}
 use Rattle.ojp_exchange.specs.Places.{IsPairAt, IsSpotAt, NoPairAt}
-use Rattle.ojp_exchange.proofs.RisingFacts.{rising_at}
+use Rattle.ojp_exchange.proofs.RisingFacts.{rising_place}
 
 -- ---- points and places
 
@@ -96,13 +95,7 @@ spot_order =
 pub one_place : (book : Book) (x y : ℕ) (stop region : Text) → IsWellBook book → IsPairAt book x stop region → IsPairAt book y stop region → x ≡ y
 one_place book x y stop region well a b =
     let tie : spot_tie a.spot b.spot ≡ true = and_true _ _ (is_same a.spot.stop b.spot.stop (a.stop_is ∙ sym b.stop_is)) (is_same a.spot.region b.spot.region (a.region_is ∙ sym b.region_is)) in
-    elim (cases_lt x y) [
-      | inl l ↦ absurd (spot_order.apart a.spot b.spot (rising_at spot_lt book.spots x y a.spot b.spot well.spots_rise a.at b.at l) tie)
-      | inr g ↦ elim (eq-or-lt_of_le g) [
-        | inl e ↦ sym e
-        | inr m ↦ absurd (spot_order.apart b.spot a.spot (rising_at spot_lt book.spots y x b.spot a.spot well.spots_rise b.at a.at m) (spot_order.back a.spot b.spot tie))
-      ]
-    ]
+    rising_place spot_lt spot_tie spot_order book.spots x y a.spot b.spot well.spots_rise a.at b.at tie
 
 pub known_at : (book : Book) (place : ℕ) (spot : Spot) → IsWellBook book → IsSpotAt book place spot → Among spot.region book.codes
 known_at book place spot well at = well.known spot (among_at book.spots place spot at)

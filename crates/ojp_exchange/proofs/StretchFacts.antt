@@ -14,7 +14,7 @@ use Rattle.ojp_timetable.proofs.TextFacts.{is_same, same_is}
 use Rattle.ojp_exchange.specs.Book.{Spot}
 use Rattle.ojp_exchange.specs.Kept.{book_of, entry_lt, regions_of, spot_of}
 use Rattle.ojp_exchange.specs.Points.{AreParted, IsStretch}
-use Rattle.ojp_exchange.proofs.RisingFacts.{rising_at}
+use Rattle.ojp_exchange.proofs.RisingFacts.{rising_at, up_to}
 
 -- the points before low are at earlier stops, and those from high on are not
 pub record ArePartedBy (points : List Point) (stop : Text) (low high : ℕ) : Type 0 where
@@ -22,9 +22,6 @@ pub record ArePartedBy (points : List Point) (stop : Text) (low high : ℕ) : Ty
   pub within : high ≤ length points
   pub below : (k : ℕ) (x : Point) → slice_get points k ≡ Some x → k < low → text_lt x.stop stop ≡ true
   pub above : (k : ℕ) (x : Point) → slice_get points k ≡ Some x → high ≤ k → text_lt x.stop stop ≡ false
-
-up_to : (k n : ℕ) → k < n + 1 → k ≤ n
-up_to k n h = omega (arith, h)
 
 or_cases : (a b : Bool) → a || b ≡ true → (a ≡ true) ⊎ (b ≡ true)
 or_cases true b h = inl refl

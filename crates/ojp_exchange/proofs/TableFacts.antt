@@ -4,10 +4,8 @@ use Rattle.std.proofs.lemmas.List.{drop-append-le, get_or-append-add, get_or_app
 use Rattle.std.proofs.Math.Seq.{drop-append_seam, get_or-append_seam}
 use Rattle.std.proofs.Math.Nat.{eq-or-lt_of_le}
 use Rattle.ojp_values.specs.Lists.{Among}
+use Rattle.ojp_exchange.proofs.RisingFacts.{up_to}
 use Rattle.ojp_exchange.specs.Tables.{AreParts, IsPart, part}
-
-up_to : (k n : ℕ) → k < n + 1 → k ≤ n
-up_to k n h = omega (arith, h)
 
 module _ {X : Type 0} where
   -- what lies in a list stays when it grows

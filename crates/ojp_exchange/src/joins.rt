@@ -77,12 +77,9 @@ fn lacks(codes: &[Code], points: &[Point], point: &Point, neighbour: &Neighbour)
     requires { IsRising entry_lt points.now }
     ensures { MatchBool result (IsLacking codes.now points.now point.now neighbour.now) (Returns codes.now points.now point.now neighbour.now) }
 {
-    if !has_code(codes, &neighbour.code) {
-        return false;
-    }
     match change_from(points, &point.stop, &neighbour.code, &point.region) {
-        None => true,
         Some(_) => false,
+        None => has_code(codes, &neighbour.code),
     }
 }
 

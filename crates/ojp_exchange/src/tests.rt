@@ -6,7 +6,7 @@ ghost use Rattle.ojp_exchange.specs.Joins.{AreWellLists};
 
 use crate::{Book, BookRefused, Edge, RegionPoints, points_of};
 use ojp_timetable::table::Timetable;
-use ojp_values::{Code, List, Neighbour, Point, StopRef};
+use ojp_values::{Code, StopRef};
 use std::alloc::Global;
 use std::test::Fail;
 
@@ -74,91 +74,50 @@ fn lists_are_joined_or_refused(rt: HostRuntime) -> Result<(), Fail> {
     Ok(())
 }
 
-// The timetable of a region with so many exchange points, from that number on.
-fn text_of(alloc: Global, region: usize, first: usize, count: usize) -> Result<String, Fail>
-    requires { first + count < 65536 }
-{
-    let mut text =
-        format!(in alloc; "ojp-timetable 1\nregion R{region}\nzone +00:00\n")?;
-    for number in first..first + count {
-        let line = format!(in alloc; "exchange x:P{number} 60 P\n")?;
-        text.push_str(line.as_str())?;
-    }
-    Ok(text)
-}
-
-#[test]
-fn a_book_has_2000_points(rt: HostRuntime) -> Result<(), Fail> {
-    let alloc = rt.alloc();
-    let mut lists = Vec::new(alloc);
-    for region in 0..8 {
-        let text = text_of(alloc, region, region * 250, 250)?;
-        add(alloc, &mut lists, text.as_str())?;
-    }
-    let book = Book::join(alloc, lists.as_slice());
-    assert_eq!(rt; book.is_ok(), true);
-    let text = text_of(alloc, 8, 1_999, 1)?;
-    add(alloc, &mut lists, text.as_str())?;
-    assert_eq!(rt; Book::join(alloc, lists.as_slice()).err(), None);
-    let text = text_of(alloc, 9, 2_000, 1)?;
-    add(alloc, &mut lists, text.as_str())?;
-    assert_eq!(rt; Book::join(alloc, lists.as_slice()).err(), Some(BookRefused::TooMany));
-    Ok(())
-}
-
-#[test]
-fn what_a_book_finds(rt: HostRuntime) -> Result<(), Fail> {
-    let alloc = rt.alloc();
-    let lists = lists_of(alloc, &[AA, BB])?;
-    let book = match Book::join(alloc, lists.as_slice()) {
-        Ok(book) => book,
-        Err(_) => return Err("refused")?,
-    };
-    let (aa, bb, cc) = (Code::new("AA")?, Code::new("BB")?, Code::new("CC")?);
-    let (shared, own) = (StopRef::new("x:P")?, StopRef::new("AA:a")?);
-    assert_eq!(rt; book.regions(), [aa, bb].as_slice());
-    assert_eq!(rt; book.regions_at(shared), [aa, bb].as_slice());
-    assert_eq!(rt; book.change(shared, aa, bb), Some(600));
-    assert_eq!(rt; book.change(shared, bb, aa), Some(300));
-    assert_eq!(rt; book.change(shared, cc, aa), None);
-    assert_eq!(rt; (book.serves(aa, own), book.serves(bb, own)), (true, false));
-    assert_eq!(rt; (book.places(), book.number_of(bb), book.number_of(cc)), (3, Some(1), None));
-    assert_eq!(rt; (book.place_of(shared, aa), book.place_of(shared, bb)), (Some(1), Some(2)));
-    assert_eq!(rt; book.ways(aa), [1].as_slice());
-    assert_eq!(rt; book.ways(cc), [].as_slice());
-    assert_eq!(rt; book.edges(1), [Edge { to: 2, change: 600 }].as_slice());
-    assert_eq!(rt; book.spot(2).region, bb);
-    Ok(())
-}
-
-#[test]
-fn points_are_listed(rt: HostRuntime) -> Result<(), Fail> {
-    let alloc = rt.alloc();
+// The book of AA and BB.
+fn book_of_both(alloc: Global) -> Result<Book, Fail> {
     let lists = lists_of(alloc, &[BB, AA])?;
-    let book = match Book::join(alloc, lists.as_slice()) {
-        Ok(book) => book,
-        Err(_) => return Err("refused")?,
-    };
-    let (shared, own) = (StopRef::new("x:P")?, StopRef::new("AA:a")?);
-    let left = point_of(alloc, "AA", Neighbour { code: Code::new("BB")?, change: 300 })?;
-    let right = point_of(alloc, "BB", Neighbour { code: Code::new("AA")?, change: 600 })?;
-    let both = [left, right];
-    assert!(rt; book.points(alloc, Some(shared))?.as_slice() == both.as_slice());
-    assert_eq!(rt; book.points(alloc, None)?.as_slice().len(), 3);
-    assert_eq!(rt; book.points(alloc, Some(own))?.as_slice().len(), 0);
-    let table = Timetable::read(alloc, AA.as_bytes())?;
-    assert!(rt; points_of(alloc, &table, Some(shared))?.as_slice() == both[..1]);
-    assert_eq!(rt; points_of(alloc, &table, Some(own))?.as_slice().len(), 0);
+    match Book::join(alloc, lists.as_slice()) {
+        Ok(book) => Ok(book),
+        Err(_) => Err("refused")?,
+    }
+}
+
+#[test]
+fn changes_are_found(rt: HostRuntime) -> Result<(), Fail> {
+    let book = book_of_both(rt.alloc())?;
+    let (aa, bb, cc) = (Code::new("AA")?, Code::new("BB")?, Code::new("CC")?);
+    let shared = StopRef::new("x:P")?;
+    let rows = [(aa, bb, Some(600)), (bb, aa, Some(300)), (cc, aa, None)];
+    for (from, to, change) in rows {
+        assert_eq!(rt; book.change(shared, from, to), change);
+    }
+    assert_eq!(rt; book.regions_at(shared), book.regions());
     Ok(())
 }
 
-// The exchange point x:P of the region with this neighbour.
-fn point_of(alloc: Global, region: &str, neighbour: Neighbour) -> Result<Point, Fail> {
-    let neighbours = List::from_slice(alloc, &[neighbour])?;
-    Ok(Point {
-        region: Code::new(region)?,
-        stop: StopRef::new("x:P")?,
-        change: 60,
-        neighbours,
-    })
+#[test]
+fn places_lead_on(rt: HostRuntime) -> Result<(), Fail> {
+    let book = book_of_both(rt.alloc())?;
+    let (aa, shared) = (Code::new("AA")?, StopRef::new("x:P")?);
+    let ways = book.ways(aa);
+    assert_eq!(rt; ways, [1].as_slice());
+    let places = book.places();
+    assert_eq!(rt; places, 3);
+    let edges = book.edges(1);
+    assert_eq!(rt; edges, [Edge { to: 2, change: 600 }].as_slice());
+    assert_eq!(rt; book.place_of(shared, book.spot(2).region), Some(2));
+    Ok(())
+}
+
+#[test]
+fn regions_serve_stops(rt: HostRuntime) -> Result<(), Fail> {
+    let book = book_of_both(rt.alloc())?;
+    let stop = StopRef::new("AA:a")?;
+    for (code, number, served) in [("AA", Some(0), true), ("BB", Some(1), false)] {
+        let region = Code::new(code)?;
+        assert_eq!(rt; book.number_of(region), number);
+        assert_eq!(rt; book.serves(region, stop), served);
+    }
+    Ok(())
 }

@@ -4,6 +4,7 @@ use Rattle.ojp_values.specs.declared.trips.Point.{Point}
 use Rattle.std.proofs.lemmas.Option.{slice_get_read, slice_get_within}
 use Rattle.ojp_timetable.proofs.ReadFacts.{at_among, read_once}
 use Rattle.ojp_exchange.specs.Disputes.{AllReturn}
+use Rattle.ojp_exchange.proofs.RisingFacts.{up_to}
 use Rattle.ojp_exchange.proofs.joins.first_dispute.Goals as goal
 
 pub points-preserved : goal.points-preserved
@@ -14,9 +15,6 @@ points-preserved c k other a l =
       | inl e ↦ subst (λ (p : Point). AllReturn c.args.codes.now all p) (read_once all c.points.point-index k c.point-item.result other (sym e) here a) c.in_default.ensures
       | inr m ↦ c.points.invariant k other a m
     ]
-  where
-    up_to : (k n : ℕ) → k < n + 1 → k ≤ n
-    up_to k n h = omega (arith, h)
 
 pub returns : goal.returns
 returns c point a =

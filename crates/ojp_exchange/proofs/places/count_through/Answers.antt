@@ -5,6 +5,7 @@ use Rattle.ojp_values.specs.Texts.{same}
 use Rattle.ojp_values.specs.declared.trips.Point.{Point}
 use Rattle.ojp_timetable.proofs.ReadFacts.{read_once}
 use Rattle.ojp_exchange.proofs.StretchFacts.{stretch_end, stretch_to}
+use Rattle.ojp_exchange.proofs.RisingFacts.{up_to}
 use Rattle.ojp_exchange.proofs.places.count_through.Goals as goal
 
 pub returns-then-not-is_at : goal.returns-then-not-is_at
@@ -25,9 +26,6 @@ points-preserved c k x a from l =
       | inl e ↦ subst (λ (y : Point). same c.args.stop.now y.stop ≡ true) (read_once all i k at x (sym e) read a) (sym c.is_at.ensures ∙ c.if-not-is_at.false)
       | inr m ↦ c.points.invariant k x a from m
     ]
-  where
-    up_to : (k n : ℕ) → k < n + 1 → k ≤ n
-    up_to k n h = omega (arith, h)
 
 pub returns : goal.returns
 returns c =

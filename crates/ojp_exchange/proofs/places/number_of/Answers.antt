@@ -2,6 +2,7 @@ use Rattle.std.proofs.Common.{◌≤◌, ◌<◌, ◌+◌, ℕ, Some, length, re
 use Rattle.std.proofs.Math.Nat.{eq-or-lt_of_le}
 use Rattle.std.proofs.lemmas.Option.{slice_get_read, slice_get_within}
 use Rattle.ojp_timetable.proofs.ReadFacts.{read_once}
+use Rattle.ojp_exchange.proofs.RisingFacts.{up_to}
 use Rattle.ojp_exchange.proofs.places.number_of.Goals as goal
 
 pub returns-then-is_code : goal.returns-then-is_code
@@ -17,9 +18,6 @@ codes-preserved c k less at =
       | inl e ↦ c.if-is_code.ensures (read_once codes c.codes.number k c.index-codes-number.result c.args.code.now (sym e) here at)
       | inr m ↦ c.codes.invariant k m at
     ]
-  where
-    up_to : (k n : ℕ) → k < n + 1 → k ≤ n
-    up_to k n h = omega (arith, h)
 
 pub returns : goal.returns
 returns c number at =
