@@ -8,6 +8,3 @@ mod trips;
 
 pub use answers::answer;
 pub use serving::serve_one;
-
-#[cfg(test)]
-mod tests;

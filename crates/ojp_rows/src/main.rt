@@ -1,6 +1,7 @@
 //! Serves rows: each is a timetable and the body of a request, and its stored run has the responses that were
 //! worked out by hand. A row is told by its response to the body with its length, and by whether the body in
-//! one chunk, read byte by byte, has the same.
+//! one chunk, read byte by byte, has the same. Behind the word `raw` stand the lines of a head, which is the
+//! whole of what is sent.
 #![tactic(auto)]
 
 ghost use Rattle.std.specs.Prelude.{◌<◌};
@@ -41,6 +42,9 @@ fn run(rt: HostRuntime) -> Option<()> {
 fn tell(rt: &HostRuntime, row: &str) -> Option<()> {
     let alloc = rt.alloc();
     let (table, body) = row.split_once("----\n")?;
+    if let Some(head) = body.strip_prefix("raw\n") {
+        return tell_end(rt, by_head(alloc, table, head)?);
+    }
     let body = body.strip_suffix("\n")?;
     let (end, output) = by_length(alloc, table, body)?;
     let text = str::from_utf8(output.written()).ok()?;
@@ -48,6 +52,22 @@ fn tell(rt: &HostRuntime, row: &str) -> Option<()> {
     let (chunk_end, chunk_output) = by_chunk(alloc, table, body)?;
     let is_same = end == chunk_end && output.written() == chunk_output.written();
     println!(rt; "in a chunk {is_same}").ok()
+}
+
+/// Writes how a connection ended, and what was written to it.
+fn tell_end(rt: &HostRuntime, (end, output): (Served, MemSink)) -> Option<()> {
+    let text = str::from_utf8(output.written()).ok()?;
+    println!(rt; "{end:?}\n{text}").ok()
+}
+
+/// How the head of these lines, or nothing where there is none, was served, and what was written.
+fn by_head(alloc: Global, table: &str, head: &str) -> Option<(Served, MemSink)> {
+    let mut bytes = Vec::new(alloc);
+    for line in head.lines() {
+        bytes.extend_from_slice(line.as_bytes()).ok()?;
+        bytes.extend_from_slice(b"\r\n").ok()?;
+    }
+    served(alloc, table, bytes.as_slice(), 1)
 }
 
 /// How the body with its length was served, and what was written.
