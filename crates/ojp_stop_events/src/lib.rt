@@ -5,6 +5,3 @@ pub mod answers;
 mod calls;
 
 pub use answers::events;
-
-#[cfg(test)]
-mod tests;
