@@ -10,6 +10,3 @@ mod words;
 
 pub use failures::Failure;
 pub use here::run_here;
-
-#[cfg(test)]
-mod tests;

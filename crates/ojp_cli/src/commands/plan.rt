@@ -7,13 +7,13 @@ ghost use Rattle.ojp_cli.specs.Runs.{Ends};
 ghost use Rattle.ojp_cli.specs.Inputs.{ReadsAsk};
 ghost use Rattle.ojp_cli.specs.Plans.{AnswersAs, Planned, PlanFails};
 
+use crate::commands::answering::plan_answer;
 use crate::failures::Failure;
 use crate::files::{self, read_table};
 use crate::input::{self, InputRefused, read_document};
 use ojp_encode::write;
 use ojp_grammar::refusals::Want;
 use ojp_outside::{MemSink, Sink, Source, Store, WriteFault, put_all};
-use crate::commands::answering::plan_answer;
 use ojp_scan::Scan;
 use ojp_timetable::table::Timetable;
 use ojp_values::{Ask, Doc, NoMemory};
