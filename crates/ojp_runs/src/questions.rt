@@ -13,7 +13,7 @@ pub fn answers(alloc: Global, text: &str) -> Option<bool> {
 
 fn stops_are_told(table: &Timetable) -> Option<bool> {
     let point = StopRef::new("x:P").ok()?;
-    let known = table.region().text() == b"AA" && table.has(point);
+    let known = table.region().text() == b"AA".as_slice() && table.has(point);
     Some(known && table.change(point) == Some(90) && table.place_of(point) == Some(1))
 }
 

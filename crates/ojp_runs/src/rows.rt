@@ -8,6 +8,7 @@ use std::alloc::Global;
 use std::str;
 
 /// One row: its first line, and behind it the file and the input.
+#[derive(Clone, Copy)]
 struct Row<'a> {
     line: &'a str,
     table: &'a str,
