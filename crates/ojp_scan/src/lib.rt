@@ -12,8 +12,6 @@ mod legs;
 mod networks;
 mod rows;
 mod scans;
-#[cfg(test)]
-mod tests;
 mod views;
 
 pub use hops::Hop;
