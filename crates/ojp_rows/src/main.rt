@@ -103,7 +103,11 @@ fn served_by(
     input: &mut MemSource,
     output: &mut MemSink,
 ) -> Option<Served> {
-    let table = Timetable::read(alloc, table.as_bytes()).ok()?;
-    let mut scan = Scan::new(alloc, &table).ok()?;
+    let Ok(table) = Timetable::read(alloc, table.as_bytes()) else {
+        return None;
+    };
+    let Ok(mut scan) = Scan::new(alloc, &table) else {
+        return None;
+    };
     Some(serve_one(alloc, &table, &mut scan, input, output))
 }
