@@ -1,8 +1,7 @@
 #!/usr/bin/env python3
-"""Writes the cases of documents that `ojp_vectors` ships and `ojp_cases` reads, with what is expected of each.
+"""Writes the cases of documents that `ojp_vectors` ships, with what is expected of each.
 
-    python3 bench/cases.py            prints nothing, and writes
-                                      crates/ojp_vectors/src/shipped/*.rt, crates/ojp_cases/stdin and crates/ojp_cases/stdout
+    python3 bench/cases.py            prints nothing, and writes crates/ojp_vectors/src/shipped/*.rt
 
 The expected outcomes come from the rules of docs/documents.md, restated here as a table of shapes, and never from the
 program: a reader of the repository can check one against the other.
@@ -356,12 +355,6 @@ def rust(text):
     return out
 
 
-def line(text):
-    out = ""
-    for byte in text:
-        out += {0x5C: "\\\\", 0x0A: "\\n"}.get(byte) or (chr(byte) if 0x20 <= byte < 0x7F else "\\x%02X" % byte)
-    return out
-
 
 GROUPS = {
     "choices": ("Each kind of document, with each choice that it has.", choices),
@@ -383,108 +376,6 @@ def table(title, texts):
         told = "document" if refused is None else "%d %s" % (refused[0], reason(refused[1]))
         rows.append('        %s [%s] b"%s"\n' % (want, told, rust(data)))
     return len(rows), "".join(rows)
-
-
-# ---- cases of the program ojp_cases
-
-MARKUP = [HEAD, "</OJP>"]
-for word in re.findall(r"[A-Za-z:]+", """
-        OJPRequest ServiceRequest OJPResponse ServiceDelivery ojp:OJPTripRequest ojp:OJPMultiPointTripRequest
-        ojp:OJPStopEventRequest ojp:OJPExchangePointsRequest ojp:OJPTripDelivery ojp:OJPMultiPointTripDelivery
-        ojp:OJPStopEventDelivery ojp:OJPExchangePointsDelivery ojp:Origin ojp:Destination ojp:Location ojp:Params ojp:PlaceRef
-        StopPointRef ojp:DepArrTime ojp:NumberOfResults ojp:StopEventType ojp:TripResult ojp:MultiPointTripResult ojp:Trip
-        ojp:Duration ojp:StartTime ojp:EndTime ojp:Transfers ojp:TripLeg ojp:TimedLeg ojp:LegBoard ojp:LegAlight
-        ojp:StopPointName ojp:TimetabledTime ojp:Service ojp:OperatingDayRef ojp:JourneyRef LineRef ojp:OperatorRef
-        ojp:StopEventResult ojp:Order ojp:ExchangePoint ojp:Neighbour ojp:TransferDuration ErrorCondition ojp:Subject"""):
-    MARKUP += ["<%s>" % word, "</%s>" % word]
-MARKUP += ["<ojp:Code>%s</ojp:Code>" % it for it in ("SAME_STOP", "STOP_UNKNOWN", "NO_TRIP", "REGION_FAILED", "NOT_SERVED")]
-
-TEXTS = {
-    "Code": ["A", "Z9", "ABCDEFGHIJKLMN09", "ABCDEFGHIJKLMN099", "a", "A B", ""],
-    "StopRef": ["A:a", "AA:s-1_2.3", "x:P", "ABCDEFGHIJKLMN09:" + "z" * 32, "x:" + "z" * 32, "x:" + "z" * 33, "x:", ":a", "y:a", "A:a:b", "A", ""],
-    "Label": [".", "J1", "-_.", "j" * 32, "j" * 33, "j/1", ""],
-    "Name": ["B", "Alder &amp; Beech", "&lt;&gt;&amp;", "n" * 100, "n" * 101, "&amp;" * 100, "&amp;" * 101, "a&b", "a<b", "a>b", "&amp", "&quot;",
-             "Caf\u00e9 & Stra\u00dfe".replace("&", "&amp;"), "\u20ac" * 33, "\u20ac" * 34, "\U0001f68b", "a\tb", "\x7f", "\ufffd", "\ufffe", "\uffff", ""],
-    "Moment": ["1970-01-01T00:00:00Z", "1970-01-01T00:00:01Z", "2024-05-06T08:00:00Z", "2024-02-29T23:59:59Z", "2000-02-29T12:00:00Z",
-               "2199-12-31T23:59:59Z", "2200-01-01T00:00:00Z", "1969-12-31T23:59:59Z", "2100-02-29T00:00:00Z", "2023-02-29T00:00:00Z",
-               "2024-00-06T08:00:00Z", "2024-13-06T08:00:00Z", "2024-05-00T08:00:00Z", "2024-04-31T08:00:00Z", "2024-05-06T24:00:00Z",
-               "2024-05-06T08:60:00Z", "2024-05-06T08:00:60Z", "2024-05-06t08:00:00Z", "2024-05-06T08:00:00", "2024-05-06T08:00:00ZZ", ""],
-    "Day": ["1970-01-03", "1970-01-02", "2024-05-06", "2024-02-29", "2199-12-28", "2199-12-29", "2023-02-29", "2024-06-31", "2024-5-06", "24-05-06", ""],
-    "Seconds": ["PT0S", "PT1S", "PT600S", "PT4294967295S", "PT4294967296S", "PT99999999999999999999S", "PT00S", "PT-1S", "PTS", "PT1", "1", ""],
-    "Change": ["PT1S", "PT60S", "PT7200S", "PT7201S", "PT0S", "PT060S", ""],
-    "Number": ["1", "9", "100", "101", "0", "01", "-1", "1 ", ""],
-    "Count": ["0", "1", "4294967295", "4294967296", "99999999999999999999", "00", "+1", "x", ""],
-    "EventKind": ["departure", "arrival", "Departure", "arrivals", ""],
-}
-EPOCH = datetime.datetime(1970, 1, 1)
-
-
-def value(kind, text):
-    """What the text of a kind spells, as the program shows it."""
-    data = text.encode()
-    if not KINDS[kind](data):
-        return "none"
-    if kind == "Name":
-        return text.replace("&lt;", "<").replace("&gt;", ">").replace("&amp;", "&")
-    if kind == "Moment":
-        return str(int((datetime.datetime.strptime(text, "%Y-%m-%dT%H:%M:%SZ") - EPOCH).total_seconds()))
-    if kind == "Day":
-        return str((datetime.date.fromisoformat(text) - EPOCH.date()).days)
-    return text[2:-1] if kind in ("Seconds", "Change") else text
-
-
-def least(texts):
-    return str(min(texts)) if texts else "none"
-
-
-def told(want, text):
-    refused = outcome(want.title(), text.encode())
-    return "document" if refused is None else "byte %d: %s" % refused
-
-
-def program():
-    """The lines of the program's input, each with its outcome."""
-    for text in [*MARKUP, "", "<OJP", "<ojp:Trip", "</OJP> ", "<ojp:TripLeg><ojp:TimedLeg>", HEAD + "x"]:
-        yield "place " + text, least([i for i, it in enumerate(MARKUP) if it == text])
-        yield "front " + text, least([i for i, it in enumerate(MARKUP) if text.startswith(it)])
-    for kind, texts in TEXTS.items():
-        for text in texts:
-            yield "%s %s" % (kind, text), value(kind, text)
-    for seconds, text in ((0, "1970-01-01T00:00:00Z"), (951782399, "2000-02-28T23:59:59Z"), (1714982400, "2024-05-06T08:00:00Z"),
-                          (4107542400, "2100-03-01T00:00:00Z"), (7258118399, "2199-12-31T23:59:59Z")):
-        yield "moment %d" % seconds, text
-    for number_ in (2, 19782, 84002):
-        yield "day %d" % number_, str(EPOCH.date() + datetime.timedelta(number_))
-    yield "region AA:s10", "AA"
-    yield "region x:HUB", "none"
-    for kind in ("Code", "StopRef", "Label"):
-        for text in TEXTS[kind]:
-            yield "made %s %s" % (kind, text), "holds" if KINDS[kind](text.encode()) else "refused"
-    for text in ("Caf\u00e9 & Stra\u00dfe 10", "a\ufffd\x7f", "<>&", "n" * 100):
-        yield "made Name " + text, "holds"
-    for text in ("", "n" * 101, "a\tb", "a\ufffe", "a\uffffb"):
-        yield "made Name " + text, "refused"
-    for kind, low, high in (("Moment", 0, 7258118399), ("Day", 2, 84002)):
-        for number_, is_in in ((low, True), (high, True), (high + 1, False), (low - 1, low == 0)):
-            if number_ >= 0:
-                yield "made %s %d" % (kind, number_), "holds" if is_in else "fails"
-    yield "keys", "holds"
-    yield "limits", "holds"
-    for text in SMALLEST.values():
-        yield "again " + text, "holds"
-    for call in (1, 2, 5):
-        yield "cut %d %s" % (call, SMALLEST["trip told"]), "holds"
-    documents = [*dict.fromkeys(text for group in (choices, reasons) for text in group() if "\n" not in text)]
-    for text in documents:
-        for want in ("request", "delivery", "either"):
-            if want == "either" or want == side(text).lower() or text in SMALLEST.values():
-                yield "%s %s" % (want, text), told(want, text)
-    asked, found, event_, near = place("AA:b"), element("ojp:MultiPointTripResult", fault()), event(), neighbour()
-    asked = element("ojp:Destination", asked)
-    for one, part, most in ((multi_ask("AA:b"), asked, 256), (multi_delivery(fault()), found, 256),
-                            (events_delivery(event_), event_, 100), (points_delivery(point("x:P", "PT60S", "AA", near)), near, 31)):
-        for count in (most, most + 1):
-            yield "either " + one.replace(part, "{%d:%s}" % (count, part)), told("either", one.replace(part, part * count))
 
 
 def write(path, text):
@@ -511,7 +402,3 @@ pub fn %s() -> Vectors<%d> {
 %s    })
 }
 """ % (title, title, {"choices": "choice_cases", "fields": "field_cases", "reasons": "reason_cases"}[word], count, rows))
-    cases = [*program()]
-    held = "".join("tables %d hold\n" % piece for piece in (1, 7, 512))
-    write("crates/ojp_cases/stdin", "".join(case + "\n" for case, _ in cases))
-    write("crates/ojp_cases/stdout", held + "".join(told + "\n" for _, told in cases))

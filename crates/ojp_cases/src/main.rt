@@ -1,38 +1,46 @@
-//! Runs cases: first the tables of `ojp_vectors`, in pieces of three lengths, then those of its standard input, a case a
-//! line. It writes a line an outcome, which its stored run compares with what bench/cases.py says.
+//! Tries the tables of `ojp_vectors` in pieces of three lengths: a line a table and length says that each case
+//! holds, or the number of the first that does not.
 #![tactic(auto)]
 
-mod calls;
-mod outcomes;
-
-use crate::outcomes::{outcome_of, tables};
-use ojp_outside::{StdSource, read_all};
+use ojp_vectors::shipped::{choice_cases, field_cases, reason_cases};
 use std::process::ExitCode;
 
-/// The most bytes of cases.
-const MOST: usize = 1 << 24;
-
 fn main(rt: HostRuntime) -> ExitCode {
-    match run(rt) {
+    match run(&rt) {
         Some(()) => ExitCode::SUCCESS,
         None => ExitCode::FAILURE,
     }
 }
 
-/// Writes the outcome of each case; none where reading, writing or memory fails.
-fn run(rt: HostRuntime) -> Option<()> {
-    let alloc = rt.alloc();
+/// Tries each table; none where writing or memory fails.
+fn run(rt: &HostRuntime) -> Option<()> {
     for piece in [1, 7, 512] {
-        let wrong = tables(alloc, piece)?;
-        println!(rt; "tables {piece} {wrong}").ok()?;
-    }
-    let mut input = StdSource::new(rt.stdin());
-    let cases = read_all(alloc, &mut input, MOST).ok()?;
-    for case in cases.as_slice().split(|byte| *byte == b'\n') {
-        if !case.is_empty() {
-            let outcome = outcome_of(alloc, case)?;
-            println!(rt; "{outcome}").ok()?;
-        }
+        tell(
+            rt,
+            "choices",
+            piece,
+            choice_cases().wrong(rt.alloc(), piece).ok()?,
+        )?;
+        tell(
+            rt,
+            "fields",
+            piece,
+            field_cases().wrong(rt.alloc(), piece).ok()?,
+        )?;
+        tell(
+            rt,
+            "reasons",
+            piece,
+            reason_cases().wrong(rt.alloc(), piece).ok()?,
+        )?;
     }
     Some(())
+}
+
+/// Writes the outcome of a table.
+fn tell(rt: &HostRuntime, table: &str, piece: usize, wrong: Option<usize>) -> Option<()> {
+    match wrong {
+        None => println!(rt; "{table} {piece} hold").ok(),
+        Some(case) => println!(rt; "{table} {piece} wrong {case}").ok(),
+    }
 }
