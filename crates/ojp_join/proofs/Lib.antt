@@ -1,1 +1,3 @@
 pub mod OutcomeFacts
+pub mod ChangeFacts
+pub mod BackFacts

@@ -68,14 +68,14 @@ record TellsWell (book : Book) (ask : TripAsk) (all told : List Entry) (entry : 
   pub listed : Among entry all
 
 -- the trip that an arrival comes from, among the results
-record ListedTrip (region o : Text) (t : ℕ) (found : List TripResult) (arrival : Arrival) : Type 0 where
-  trip : Trip
-  listed : Among (results.Trip trip) found
-  by_region : arrival.region ≡ region
-  at : arrival.moment ≡ trip.end
-  fits : FitsTrip region o t arrival.stop trip
+pub record ListedTrip (region o : Text) (t : ℕ) (found : List TripResult) (arrival : Arrival) : Type 0 where
+  pub trip : Trip
+  pub listed : Among (results.Trip trip) found
+  pub by_region : arrival.region ≡ region
+  pub at : arrival.moment ≡ trip.end
+  pub fits : FitsTrip region o t arrival.stop trip
 
-listed_trip : (region o : Text) (t : ℕ) (stops : List Text) (found : List TripResult) (arrival : Arrival) → Pairwise (FitsResult region o t) stops found → Among arrival (arrivals_told region stops found) → ListedTrip region o t found arrival
+pub listed_trip : (region o : Text) (t : ℕ) (stops : List Text) (found : List TripResult) (arrival : Arrival) → Pairwise (FitsResult region o t) stops found → Among arrival (arrivals_told region stops found) → ListedTrip region o t found arrival
 listed_trip region o t [] found arrival pairs h = absurd h
 listed_trip region o t (stop ∷ stops) [] arrival pairs h = absurd h
 listed_trip region o t (stop ∷ stops) (results.Trip trip ∷ found) arrival pairs (inl e) =
@@ -98,12 +98,12 @@ fits_region region at [] here follow = here
 fits_region region at (leg ∷ legs) here follow = fits_region region (after at leg) legs follow.0.0 follow.1
 
 -- where the legs of a fitting trip lead
-fits_reach : (region o : Text) (t : ℕ) (d : Text) (trip : Trip) → FitsTrip region o t d trip → (from : Standing) → reached from trip.legs ≡ record { region = region; stop = d; moment = trip.end }
+pub fits_reach : (region o : Text) (t : ℕ) (d : Text) (trip : Trip) → FitsTrip region o t d trip → (from : Standing) → reached from trip.legs ≡ record { region = region; stop = d; moment = trip.end }
 fits_reach region o t d trip it from =
     ap (reached from) it.totals.legs_are
     ∙ stands (reached (alighted it.first) it.rest) region d trip.end (fits_region region (alighted it.first) it.rest it.of_region it.follow) it.ends.0 it.ends.1
 
-some_legs : (region o : Text) (t : ℕ) (d : Text) (trip : Trip) → FitsTrip region o t d trip → trip.legs ≢ []
+pub some_legs : (region o : Text) (t : ℕ) (d : Text) (trip : Trip) → FitsTrip region o t d trip → trip.legs ≢ []
 some_legs region o t d trip it e = let none : it.first ∷ it.rest ≡ [] = sym it.totals.legs_are ∙ e in cc
 
 now_heard :
@@ -197,7 +197,7 @@ best_is_chained book ask told a well e =
 
 -- no known start is before the asked one
 
-fits_forward : (region : Text) (at : Standing) (legs : List Leg) → AllFollow (FitsNext region) at legs → at.moment ≤ (reached at legs).moment
+pub fits_forward : (region : Text) (at : Standing) (legs : List Leg) → AllFollow (FitsNext region) at legs → at.moment ≤ (reached at legs).moment
 fits_forward region at [] follow = omega arith
 fits_forward region at (leg ∷ legs) follow =
     let later : leg.arrives ≤ (reached (alighted leg) legs).moment = fits_forward region (alighted leg) legs follow.1 in
