@@ -1,6 +1,6 @@
 -- What a search that keeps least starts, the best arrival and the states of places needs of the definitions.
-use Rattle.std.proofs.Common.{◌≡◌, ◌≢◌, ℕ, ◌+◌, ◌<◌, ◌≤◌, Bool, true, false, not, cond, ◌&&◌, ◌||◌, ◌⊎◌, List, [], ◌∷◌, ◌++◌, map, length, Option, Some, None, refl, sym, ◌∙◌, ap, subst, inl, inr, arith, append_assoc, append-nil}
-use Rattle.std.proofs.lemmas.Bool.{cases_Bool, and_parts, ltb-true}
+use Rattle.std.proofs.Common.{◌≡◌, ◌≢◌, ℕ, ◌+◌, ◌<◌, ◌≤◌, Bool, true, false, not, cond, ◌&&◌, ◌||◌, ◌⊎◌, List, [], ◌∷◌, ◌++◌, map, length, Option, Some, None, nat_le, refl, sym, ◌∙◌, ap, subst, inl, inr, arith, append_assoc, append-nil}
+use Rattle.std.proofs.lemmas.Bool.{cases_Bool, and_parts, leb-true, ltb-true}
 use Rattle.std.proofs.lemmas.List.Folds.{list_any-append}
 use Rattle.std.specs.List.{filter, flat_map, cons_option}
 use Rattle.ojp_values.specs.Lists.{Among, Each, least, lesser}
@@ -8,6 +8,7 @@ use Rattle.ojp_values.specs.Texts.{Text, same, home}
 use Rattle.ojp_values.specs.declared.asks.TripAsk.{TripAsk}
 use Rattle.ojp_values.specs.declared.replies.Delivery.{Delivery}
 use Rattle.ojp_values.proofs.ListFacts.{LeastBelow, least_below, least_among}
+use Rattle.ojp_timetable.specs.Runs.{day_long, last_moment}
 use Rattle.ojp_exchange.specs.Book.{Book, Spot, has_region, serves}
 use Rattle.ojp_records.specs.declared.queries.Query.{Query}
 use Rattle.ojp_records.specs.declared.queries.Query.TheVariants.{Check, Reach}
@@ -19,7 +20,7 @@ use Rattle.ojp_records.specs.Starts.{lesser_of, Arrival, arrivals_heard, is_with
 use Rattle.ojp_records.specs.Wanted.{is_before, can_improve, wanted, Improves, PairWanted}
 use Rattle.ojp_records.specs.Told.{EntryFits, IsOpen, IsRecord, ToldInTurn}
 use Rattle.ojp_records.proofs.StartFacts.{IsAsked, IsAfter, known_start_back, known_starts_more, BestBelow, best_below}
-use Rattle.ojp_records.specs.Laws.{AskedStartsFall, StartsAreLow, WantedIsOpen}
+use Rattle.ojp_records.specs.Laws.{AskedStartsFall, StartsAreLow, WantedIsOpen, WantedStartsAreWithin}
 use Rattle.ojp_records.proofs.RecordFacts.{EntryOf, told_is, OpenAt, open_at}
 use Rattle.ojp_records.proofs.PlaceFacts.{OriginCheck, TargetCheck, AtPair, reply_is_heard}
 use Rattle.ojp_records.proofs.WantedFacts.{WantedBy, wanted_by, pair_wanted, check_is, open_start}
@@ -222,6 +223,12 @@ reach_improves book ask told region stop start h = go (wanted_by book ask told (
     go (OriginCheck o i) = absurd (no_check ask.origin i)
     go (TargetCheck known t i) = absurd (no_check ask.target i)
     go (AtPair o t i) = at_pair (pair_wanted book ask told (Reach region stop start) i)
+
+pub wanted_starts_are_within : WantedStartsAreWithin
+wanted_starts_are_within book ask told region stop start well h =
+    let it : Improves book ask told (record { stop = stop; region = region }) start = reach_improves book ask told region stop start h in
+    let rest : (nat_le start (ask.start + day_long) && nat_le start last_moment) ≡ true = (and_parts _ _ it.can).1 in
+    (starts_are_low book ask told stop region start well it.is_least, leb-true start (ask.start + day_long) (and_parts _ _ rest).0)
 
 -- the starts at which a pair is wanted strictly fall
 asked_fall :

@@ -331,3 +331,32 @@ unfolding fault
 end_is_right tables book ask told whole differ well given no_wanted =
     ends tables book ask told (place_state book (checks_in told) ask.origin) (place_state book (checks_in told) ask.target) (least_text (failed_checks book ask told)) (least_text (failed_pairs book ask told)) (best book ask told)
     (record { whole = whole; differ = differ; told_well = well; given = given; no_wanted = no_wanted }) refl refl refl refl refl
+
+-- ---- a search that ends with a trip
+
+-- both places are known, where there is no fault
+both_known :
+    (tables : List Timetable) (book : Book) (ask : TripAsk) (told : List Entry) (origin target : PlaceState) (check_failed pair_failed : Option Text) (arrival : Option ℕ)
+    → IsEnded tables book ask told → place_state book (checks_in told) ask.origin ≡ origin → place_state book (checks_in told) ask.target ≡ target
+    → least_text (failed_checks book ask told) ≡ check_failed
+    → fault_by ask.origin ask.target origin target check_failed pair_failed arrival ≡ None → AreKnown book ask told
+both_known tables book ask told Unknown target check_failed pair_failed arrival ended o t c e = absurd (cc)
+both_known tables book ask told origin Unknown check_failed pair_failed arrival ended o t c e = absurd (cc)
+both_known tables book ask told origin target (Some region) pair_failed arrival ended o t c e = absurd (cc)
+both_known tables book ask told origin target None (Some region) arrival ended o t c e = absurd (cc)
+both_known tables book ask told origin target None None (Some arrival) ended o t c e =
+    are_known tables book ask told ended (at_state _ origin o (λ e. cc)) (at_state _ target t (λ e. cc)) (least_text_none (failed_checks book ask told) c)
+both_known tables book ask told origin target None None None ended o t c e = absurd (cc)
+
+-- where a search ends with a trip, both of its places are places of the timetables
+pub trip_places :
+    (tables : List Timetable) (book : Book) (ask : TripAsk) (told : List Entry)
+    → AreTablesOf tables book → ask.origin ≢ ask.target → IsRecord book ask told → Each (EntryGiven tables book ask) told → wanted book ask told ≡ []
+    → fault book ask told ≡ None → IsPlace tables ask.origin × IsPlace tables ask.target
+unfolding fault
+trip_places tables book ask told whole differ well given no_wanted e =
+    let ended : IsEnded tables book ask told = record { whole = whole; differ = differ; told_well = well; given = given; no_wanted = no_wanted } in
+    let known : AreKnown book ask told =
+    both_known tables book ask told (place_state book (checks_in told) ask.origin) (place_state book (checks_in told) ask.target) (least_text (failed_checks book ask told)) (least_text (failed_pairs book ask told)) (best book ask told)
+    ended refl refl refl e in
+    (place_known tables book ask told ask.origin ended known.origin, place_known tables book ask told ask.target ended known.target)

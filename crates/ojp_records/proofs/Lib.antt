@@ -17,3 +17,4 @@ pub mod FailFacts
 pub mod CheckedFacts
 pub mod EndCounts
 pub mod NextFacts
+pub mod SureFacts

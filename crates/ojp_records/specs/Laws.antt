@@ -1,20 +1,22 @@
 -- Laws of the definitions.
-use Rattle.std.specs.Prelude.{◌≡◌, ◌≢◌, ◌↔◌, ℕ, ◌<◌, ◌≤◌, List, [], ◌∷◌, ◌++◌, not, filter, Some, None, length}
+use Rattle.std.specs.Prelude.{◌≡◌, ◌≢◌, ◌↔◌, ℕ, ◌+◌, ◌<◌, ◌≤◌, List, [], ◌∷◌, ◌++◌, not, filter, Some, None, length}
 use Rattle.ojp_values.specs.Lists.{Among, IsRising, least}
 use Rattle.ojp_values.specs.Texts.{Text}
 use Rattle.ojp_values.specs.declared.asks.TripAsk.{TripAsk}
 use Rattle.ojp_values.specs.declared.trips.Leg.{Leg}
 use Rattle.ojp_timetable.specs.Tables.{Timetable}
+use Rattle.ojp_timetable.specs.Runs.{day_long}
 use Rattle.ojp_timetable.specs.Journeys.{United}
 use Rattle.ojp_exchange.specs.Book.{Book}
+use Rattle.ojp_links.specs.Sure.{IsSure}
 use Rattle.ojp_records.specs.declared.queries.Query.{Query}
 use Rattle.ojp_records.specs.declared.queries.Query.TheVariants.{Reach}
 use Rattle.ojp_records.specs.declared.queries.Entry.{Entry}
-use Rattle.ojp_records.specs.Records.{same_query}
+use Rattle.ojp_records.specs.Records.{region_of, same_query}
 use Rattle.ojp_records.specs.Pairs.{Pair, ends_towards, AreInOrder}
 use Rattle.ojp_records.specs.Starts.{known_starts, best}
 use Rattle.ojp_records.specs.Wanted.{Improves, IsNext, next_of, reach_lt, wanted_pairs, PairWanted, wanted}
-use Rattle.ojp_records.specs.Told.{IsOpen, IsRecord}
+use Rattle.ojp_records.specs.Told.{document, IsOpen, IsRecord}
 use Rattle.ojp_records.specs.Ends.{fault}
 use Rattle.ojp_records.specs.Headline.{AreTablesOf, AreGiven, EndMeans}
 use Rattle.ojp_records.specs.Chains.{Chained}
@@ -108,3 +110,18 @@ TargetsAreFew =
 -- what is asked next is the first wanted query that is not live
 abbrev pub NextIsFirst : Type 0
 NextIsFirst = (queries live : List Query) → IsNext queries live (next_of queries live)
+
+-- a start at which a pair is wanted is within the requested day, whatever fitting replies were told
+abbrev pub WantedStartsAreWithin : Type 0
+WantedStartsAreWithin =
+    (book : Book) (ask : TripAsk) (told : List Entry) (region stop : Text) (start : ℕ)
+    → IsRecord book ask told → Among (Reach region stop start) (wanted book ask told)
+    → (ask.start ≤ start) × (start ≤ ask.start + day_long)
+
+-- a region is sure of the subrequest of each open query: it has each place of a pair's, and no target is the pair's stop
+abbrev pub OpenIsSure : Type 0
+OpenIsSure =
+    (tables : List Timetable) (book : Book) (ask : TripAsk) (told : List Entry) (query : Query) (table : Timetable)
+    → AreTablesOf tables book → ask.origin ≢ ask.target → AreGiven tables book ask told → IsOpen book ask told query
+    → Among table tables → table.region ≡ region_of query
+    → IsSure table (document book ask query)

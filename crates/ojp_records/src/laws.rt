@@ -1,6 +1,6 @@
 //! What a search may conclude from its record, whatever was told: laws of the definitions alone.
 
-ghost use Rattle.ojp_records.specs.Laws.{BestIsChained, ChainsAreJourneys, EndIsRight, StartsFall, BestFalls, NeverAgain, PairsAreListed, BooksAreInOrder, WantedIsOpen, FailureDropsOne, TargetsAreFew, NextIsFirst, AskedStartsFall, StartsAreLow};
+ghost use Rattle.ojp_records.specs.Laws.{BestIsChained, ChainsAreJourneys, EndIsRight, StartsFall, BestFalls, NeverAgain, PairsAreListed, BooksAreInOrder, WantedIsOpen, FailureDropsOne, TargetsAreFew, NextIsFirst, AskedStartsFall, StartsAreLow, WantedStartsAreWithin, OpenIsSure};
 
 /// The end of a search is right, whatever was told and in whatever order.
 ///
@@ -76,4 +76,15 @@ pub fn asked_starts_fall()
 /// No start is known before the asked one, whatever fitting replies were told.
 pub fn starts_are_low()
     ensures { StartsAreLow }
+{}
+
+/// A start at which a pair is wanted is within the requested day, whatever fitting replies were told.
+pub fn wanted_starts_are_within()
+    ensures { WantedStartsAreWithin }
+{}
+
+/// A region is sure of the subrequest of each open query, where the regions of the book gave the replies by their
+/// timetables: it has each place that is asked for, and no target is the stop that is asked from.
+pub fn open_is_sure()
+    ensures { OpenIsSure }
 {}
