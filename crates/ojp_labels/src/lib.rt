@@ -6,7 +6,7 @@ pub mod board;
 mod comparing;
 mod faults;
 mod hearing;
-pub mod labels;
+mod labels;
 mod starting;
 mod states;
 mod targets;
