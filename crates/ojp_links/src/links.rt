@@ -57,6 +57,10 @@ pub trait Links: Drop {
         requires { region < length (seen self.now).fixed.stations }
         ensures { result ≡ code_at (seen self.now) region };
 
+    /// What the links tell is so. The call does nothing.
+    fn is_sound(&self)
+        ensures { IsSound (seen self.now) };
+
     /// Sends a request to a region.
     fn ask(&mut self, region: usize, request: &[u8]) -> Result<Sub, AskRefused>
         requires { region < length (seen self.old).fixed.stations }
@@ -81,9 +85,6 @@ pub trait Links: Drop {
     fn reject(&mut self, sub: Sub, expect: &Expect)
         requires { MayReject (seen self.old) sub.key expect.now }
         ensures { Rejects (seen self.old) (seen self.new) sub.key };
-
-    /// What the links tell is so.
-    ghost sound: { (l : Self) → IsSound (seen l) };
 }
 
 /// Links over which a rest brings replies nearer.
