@@ -1,6 +1,6 @@
 -- A run of the machine behind the bytes that are kept.
-use Rattle.std.proofs.Common.{◌≡◌, ◌≢◌, refl, ℕ, zero, suc, ◌⊎◌, inl, inr, ◌+◌, ◌-◌, ◌<◌, ◌≤◌, List, [], ◌∷◌, ◌++◌, length, take, drop, Option, Some, None, Err, Ok, min, sym, ◌∙◌, ap, subst, arith, append_assoc, length-append, take-append-drop, length-take-le, length-drop}
-use Rattle.std.specs.Prelude.{MatchOption}
+use Rattle.std.proofs.Common.{◌≡◌, ◌≢◌, refl, ℕ, zero, suc, ◌⊎◌, inl, inr, ◌+◌, ◌-◌, ◌<◌, ◌≤◌, Bool, true, false, List, [], ◌∷◌, ◌++◌, length, take, drop, Option, Some, None, Err, Ok, min, sym, ◌∙◌, ap, subst, arith, append_assoc, length-append, take-append-drop, length-take-le, length-drop}
+use Rattle.std.specs.Prelude.{MatchBool, MatchOption}
 use Rattle.std.proofs.lemmas.List.{append-nil, drop-append-le, take-append-le, drop-drop, take_all}
 use Rattle.std.proofs.Math.Seq.{take-append_seam, drop-append_seam}
 use Rattle.ojp_grammar.specs.declared.machine.Machine.{Machine}
@@ -80,13 +80,13 @@ pub joined_stands : (old : Machine) (bytes kept front joined : List ℕ) → IsW
 joined_stands old bytes kept front joined w e =
     subst (Stands old (bytes ++ front)) (sym e) (reading_more old.want old.at (stack_of old.stack.items) old.draft bytes kept front w.stands)
 
+empty_of : (xs : List ℕ) → length xs ≡ 0 → xs ≡ []
+empty_of [] e = refl
+empty_of (x ∷ xs) e = absurd (omega arith)
+
 -- where the kept bytes are empty the machine stands before the piece
 pub empty_stands : (old : Machine) (bytes kept piece : List ℕ) → IsWaiting old bytes kept → length kept ≡ 0 → Stands old (bytes ++ piece) piece
-empty_stands old bytes kept piece w none = joined_stands old bytes kept piece piece w (sym (ap (λ l. l ++ piece) (nothing kept none)))
-  where
-    nothing : (xs : List ℕ) → length xs ≡ 0 → xs ≡ []
-    nothing [] e = refl
-    nothing (x ∷ xs) e = absurd (omega arith)
+empty_stands old bytes kept piece w none = joined_stands old bytes kept piece piece w (sym (ap (λ l. l ++ piece) (empty_of kept none)))
 
 -- what the run leaves of the kept bytes and the piece's front, and then the rest of the piece, is what the piece has behind
 behind_piece : (kept piece : List ℕ) (room took : ℕ) → length kept ≤ took → took ≤ length (kept ++ take room piece) → drop took (kept ++ take room piece) ++ drop room piece ≡ drop (took - length kept) piece
@@ -158,14 +158,18 @@ all_passed kept piece joined room took before e size within =
 
 -- ---- a piece from some place on
 
+-- what a slice to the end holds
+pub slice_all : (piece : List ℕ) (passed : ℕ) → take (length piece - passed) (drop passed piece) ≡ drop passed piece
+slice_all piece passed = take_all (length piece - passed) (drop passed piece) (omega (arith, length-drop passed piece))
+
 -- what a slice of the piece has left behind so many bytes of it
 rest_within : (piece : List ℕ) (passed took : ℕ) → drop took (take (length piece - passed) (drop passed piece)) ≡ drop (passed + took) piece
 rest_within piece passed took =
-    ap (drop took) (take_all (length piece - passed) (drop passed piece) (omega (arith, length-drop passed piece))) ∙ drop-drop took passed piece
+    ap (drop took) (slice_all piece passed) ∙ drop-drop took passed piece
 
 pub slice_stands : (m : Machine) (bytes piece : List ℕ) (passed : ℕ) → Stands m bytes (drop passed piece) → Stands m bytes (take (length piece - passed) (drop passed piece))
 slice_stands m bytes piece passed r =
-    subst (Stands m bytes) (sym (take_all (length piece - passed) (drop passed piece) (omega (arith, length-drop passed piece)))) r
+    subst (Stands m bytes) (sym (slice_all piece passed)) r
 
 pub slice_run : (want : Want) (m : Machine) (bytes piece : List ℕ) (passed took : ℕ) (stop : Option Reason) → m.want ≡ want → Stands m bytes (drop took (take (length piece - passed) (drop passed piece))) → MatchOption stop (m.stack.items ≡ []) (StopsFor (stack_of m.stack.items) (drop took (take (length piece - passed) (drop passed piece)))) → IsCutAt m.cut (stack_of m.stack.items) (drop took (take (length piece - passed) (drop passed piece))) → HasRun want m bytes (drop (passed + took) piece) stop
 slice_run want m bytes piece passed took stop same r stops cut =
@@ -206,29 +210,18 @@ run_decides want m bytes piece left kept room stop reason refused run is other t
     let P : List ℕ → Type 0 = λ b. ReadsOn want b piece (Err refused) m kept in
     subst P all (ran_refused want m (bytes ++ take room piece) left (drop room piece) piece kept stop reason refused run is other told)
 
-empty_of : (xs : List ℕ) → length xs ≡ 0 → xs ≡ []
-empty_of [] e = refl
-empty_of (x ∷ xs) e = absurd (omega arith)
-
--- a run that passed all the bytes waits for more
-pub waits_behind : (want : Want) (m : Machine) (bytes kept piece joined new : List ℕ) (room took before : ℕ) (stop : Option Reason) (reason : Reason) → HasRun want m (bytes ++ take room piece) (drop took joined) stop → stop ≡ Some reason → reason ≡ Truncated → joined ≡ kept ++ take room piece → before ≡ length kept → before ≤ took → took ≤ length joined → took - before ≡ length piece → new ≡ [] → ReadsOn want (bytes ++ piece) piece (Ok feds.More) m new
-waits_behind want m bytes kept piece joined new room took before stop reason run is cut e size passed within all none =
-    let total : length joined ≡ length kept + length (take room piece) = ap length e ∙ length-append kept (take room piece) in
-    let fewer : length piece ≡ length (take room piece) + length (drop room piece) =
-    ap length (sym (take-append-drop room piece)) ∙ length-append (take room piece) (drop room piece) in
-    let joined_left : drop took joined ≡ [] =
-    empty_of (drop took joined) (omega (arith, length-drop took joined, total, fewer, size, passed, all)) in
-    let piece_left : drop (took - before) piece ≡ [] =
-    empty_of (drop (took - before) piece) (omega (arith, length-drop (took - before) piece, all)) in
-    let stops = subst (StopsFor (stack_of m.stack.items) (drop took joined)) cut (stops_for want m (bytes ++ take room piece) (drop took joined) stop reason run is) in
-    let P : List ℕ → Type 0 = λ l. StopsFor (stack_of m.stack.items) l Truncated in
-    let Q : List ℕ → Type 0 = IsWaiting m (bytes ++ piece) in
-    let waiting : IsWaiting m (bytes ++ piece) [] = record {
-      stands = subst (Stands m (bytes ++ piece)) piece_left (behind_stands m bytes kept piece joined room took before run.stands e size passed within);
-      stops = subst P joined_left stops;
-      cut = subst (IsCutAt m.cut (stack_of m.stack.items)) joined_left run.cut_is;
-    } in
-    (run.want_is, subst Q (sym none) waiting)
+-- where the whole piece was run over, what the run leaves of it waits
+pub waits_behind : (want : Want) (m : Machine) (bytes kept piece joined new : List ℕ) (room took before : ℕ) (stop : Option Reason) (reason : Reason) → HasRun want m (bytes ++ take room piece) (drop took joined) stop → stop ≡ Some reason → reason ≡ Truncated → joined ≡ kept ++ take room piece → before ≡ length kept → before ≤ took → took ≤ length joined → length piece ≤ room → new ≡ drop (took - before) piece → ReadsOn want (bytes ++ piece) piece (Ok feds.More) m new
+waits_behind want m bytes kept piece joined new room took before stop reason run is cut e size passed within fits left =
+    let none : drop room piece ≡ [] = empty_of (drop room piece) (omega (arith, length-drop room piece, fits)) in
+    let rest : drop took joined ≡ drop (took - before) piece =
+    ap (drop took) e
+    ∙ (sym (append-nil (drop took (kept ++ take room piece)))
+    ∙ (ap (λ l. drop took (kept ++ take room piece) ++ l) (sym none)
+    ∙ (behind_piece kept piece room took (omega (arith, size, passed)) (omega (arith, within, ap length e)) ∙ ap (λ n. drop (took - n) piece) (sym size)))) in
+    let P : List ℕ → Type 0 = λ b. ReadsOn want b piece (Ok feds.More) m new in
+    subst P (ap (λ p. bytes ++ p) (take_all room piece fits))
+    (ran_waits want m (bytes ++ take room piece) (drop took joined) new piece stop reason run is cut (rest ∙ sym left))
 
 -- ---- an item that stays cut
 
@@ -237,7 +230,7 @@ stays_at cut [] kept piece h stays = h
 stays_at cut (s ∷ k) kept piece h stays = stays s kept refl h
 
 -- the machine waits with the piece kept too
-pub waits_on : (m : Machine) (cut : Cut) (bytes kept piece new : List ℕ) → m.cut ≡ Some cut → StaysCut cut (length kept) piece → new ≡ kept ++ piece → IsWaiting m bytes kept → IsWaiting m (bytes ++ piece) new
+waits_on : (m : Machine) (cut : Cut) (bytes kept piece new : List ℕ) → m.cut ≡ Some cut → StaysCut cut (length kept) piece → new ≡ kept ++ piece → IsWaiting m bytes kept → IsWaiting m (bytes ++ piece) new
 waits_on m cut bytes kept piece new is stays e w =
     let P : Option Cut → Type 0 = λ o. IsCutAt o (stack_of m.stack.items) kept in
     let Q : Option Cut → Type 0 = λ o. IsCutAt o (stack_of m.stack.items) (kept ++ piece) in
@@ -249,6 +242,11 @@ waits_on m cut bytes kept piece new is stays e w =
       cut = subst Q (sym is) here;
     } in
     subst R (sym e) all
+
+-- a piece that was kept leaves the machine waiting, and another changes nothing
+pub kept_waits : (m : Machine) (cut : Cut) (kept piece new : List ℕ) (is_kept : Bool) → m.cut ≡ Some cut → MatchBool is_kept (StaysCut cut (length kept) piece × (new ≡ kept ++ piece)) (new ≡ kept) → MatchBool is_kept ((bytes : List ℕ) → IsWaiting m bytes kept → IsWaiting m (bytes ++ piece) new) (new ≡ kept)
+kept_waits m cut kept piece new true is h = λ bytes w. waits_on m cut bytes kept piece new is h.0 h.1 w
+kept_waits m cut kept piece new false is h = h
 
 -- nothing was fed
 pub first_waits : (m : Machine) (kept : List ℕ) → kept ≡ [] → Stands m [] [] → StopsFor (stack_of m.stack.items) [] Truncated → IsCutAt m.cut (stack_of m.stack.items) [] → IsWaiting m [] kept

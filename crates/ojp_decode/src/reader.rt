@@ -1,13 +1,15 @@
 //! Documents, read in pieces.
-ghost use Rattle.std.specs.Prelude.{◌≡◌, ◌≢◌, ◌++◌, ◌≤◌, ℕ, [], List, length, drop, MatchBool};
+ghost use Rattle.std.specs.Prelude.{◌≡◌, ◌≢◌, ◌++◌, ◌∷◌, ◌≤◌, ℕ, [], List, length, drop, MatchBool};
 ghost use Rattle.ojp_grammar.specs.declared.refusals.Reason.TheVariants.{Truncated};
+ghost use Rattle.ojp_grammar.specs.Machine.{StaysCut};
 ghost use Rattle.ojp_grammar.specs.Running.{Stands};
 ghost use Rattle.ojp_decode.specs.Progress.{Progress, reading};
 ghost use Rattle.ojp_decode.specs.Standing.{HasRead, Feeds, Gives, KeepsFor, IsWaiting, ReadsOn, stage_of};
 
+use crate::cuts::stays_cut_behind;
 use crate::fed::{Fed, ReadRefused, Stage};
 use arrayvec::ArrayVec;
-use ojp_grammar::machine::{Machine, stays_cut};
+use ojp_grammar::machine::{Cut, Machine, stays_cut};
 use ojp_grammar::refusals::{Reason, Refused, Want};
 use ojp_values::documents::Doc;
 use std::alloc::Global;
@@ -105,6 +107,29 @@ fn keep_cut(machine: &Machine, kept: &mut ArrayVec<u8, MOST>, piece: &[u8]) -> b
     let Some(cut) = machine.cut else {
         return false;
     };
+    match *piece {
+        [byte] => keep_byte(cut, kept, byte),
+        _ => keep_piece(cut, kept, piece),
+    }
+}
+
+/// The same for one byte.
+fn keep_byte(cut: Cut, kept: &mut ArrayVec<u8, MOST>, byte: u8) -> bool
+    ensures { MatchBool result (StaysCut cut (length kept.old.items) (byte ∷ []) × (kept.new.items ≡ kept.old.items ++ byte ∷ [])) (kept.new.items ≡ kept.old.items) }
+{
+    if !stays_cut_behind(cut, kept.len(), byte) {
+        return false;
+    }
+    match kept.try_push(byte) {
+        Ok(()) => true,
+        Err(_) => false,
+    }
+}
+
+/// The same for any piece.
+fn keep_piece(cut: Cut, kept: &mut ArrayVec<u8, MOST>, piece: &[u8]) -> bool
+    ensures { MatchBool result (StaysCut cut (length kept.old.items) piece.now × (kept.new.items ≡ kept.old.items ++ piece.now)) (kept.new.items ≡ kept.old.items) }
+{
     if !stays_cut(cut, kept.len(), piece) {
         return false;
     }
@@ -164,10 +189,13 @@ fn read_behind(
     }
     let passed = ran.took - before;
     kept.clear();
-    if passed == piece.len() {
-        return Ok(Fed::More);
+    if room < piece.len() {
+        return read_piece(machine, kept, piece, passed);
     }
-    read_piece(machine, kept, piece, passed)
+    let Ok(()) = kept.try_extend_from_slice(&piece[passed..]) else {
+        unreachable!()
+    };
+    Ok(Fed::More)
 }
 
 impl Reader {
