@@ -1,6 +1,5 @@
 -- Numbers by their digits and by their decimal texts.
-use Rattle.std.proofs.Common.{◌≡◌, ℕ, zero, suc, ◌-◌, ◌≤◌, ◌<◌, ◌^◌, ◌==◌, ◌&&◌, ◌||◌, Bool, true, false, not, true≢false, List, [], ◌∷◌, length, get_or, refl, sym, ◌∙◌, ap, subst, arith, fold, lit<, inl, inr}
-use Rattle.std.specs.Prelude.{Some, None}
+use Rattle.std.proofs.Common.{◌≡◌, ℕ, zero, suc, ◌≤◌, ◌<◌, ◌^◌, ◌==◌, ◌&&◌, ◌||◌, Bool, true, false, not, true≢false, List, [], ◌∷◌, length, get_or, refl, sym, ◌∙◌, ap, subst, arith, fold, lit<, inl, inr}
 use Rattle.std.specs.List.{list_all}
 use Rattle.std.specs.Char.{is_ascii_digit}
 use Rattle.std.specs.Fmt.{decimal}
@@ -9,7 +8,7 @@ use Rattle.std.proofs.lemmas.Fmt.{decimal-digits_value, decimal_digit, decimal_i
 use Rattle.std.proofs.lemmas.Str.Parse.{FoldsDigits, IsDigitsTest, IsNumeralModel, numerals_by_fold}
 use Rattle.ojp_values.proofs.Escapes.{and_true_left, and_true_right}
 use Rattle.ojp_zones.specs.Laws.{NumbersAreDecimal}
-use Rattle.ojp_zones.specs.Numbers.{is_number, is_plain, number, number_if, with_digit}
+use Rattle.ojp_zones.specs.Numbers.{is_number, is_plain, number, with_digit}
 use Rattle.ojp_zones.specs.Parts.{Text}
 
 pub fold-ge : (digits : List ℕ) (n : ℕ) → n ≤ fold with_digit n digits
@@ -110,27 +109,3 @@ numbers_are_decimal low high text bound = (
       (number text, it.1, it.2, decimal_of text it.0 (omega (arith, it.2, bound)), refl),
   λ given. subst (λ (t : Text). is_number low high t ≡ true) given.3 (in_number low high given.0 (omega (arith, given.2, bound)) given.1 given.2),
 )
-
-number_if-not : (low high : ℕ) (text : Text) → is_number low high text ≡ false → number_if (is_number low high text) text ≡ None
-number_if-not low high text e = ap (λ (b : Bool). number_if b text) e
-
-not_number : (low high : ℕ) (text : Text) → (is_number low high text ≡ true → ⊥) → number_if (is_number low high text) text ≡ None
-not_number low high text none = elim (cases_Bool (is_number low high text)) [ inl e ↦ absurd (none e) | inr e ↦ number_if-not low high text e ]
-
--- a text that spells no number is none in a range
-pub spells_none : (low high : ℕ) (text : Text) → high < 2 ^ 32 → ((n : ℕ) → n < 2 ^ 32 → decimal n ≡ text → ⊥) → number_if (is_number low high text) text ≡ None
-spells_none low high text bound none = not_number low high text
-    (λ e. let it = (numbers_are_decimal low high text bound).0 e in none it.0 (omega (arith, it.2, bound)) it.3)
-
--- nor does one that spells a number out of the range
-pub spells_other : (low high n : ℕ) (text : Text) → high < 2 ^ 32 → n < 2 ^ 32 → decimal n ≡ text → (low ≤ n → n ≤ high → ⊥) → number_if (is_number low high text) text ≡ None
-spells_other low high n text bound small spelled out = not_number low high text
-    (λ e. let it = number_in low high text e in
-    let is : number text ≡ n = sym (ap number spelled) ∙ number_of n (omega (arith, small)) in
-    out (omega (arith, it.1, is)) (omega (arith, it.2, is)))
-
--- a text that spells a number of the range
-pub spells : (low high n : ℕ) (text : Text) → n < 2 ^ 32 → decimal n ≡ text → low ≤ n → n ≤ high → number_if (is_number low high text) text ≡ Some n
-spells low high n text small spelled from to =
-    let is : is_number low high text ≡ true = subst (λ (t : Text). is_number low high t ≡ true) spelled (in_number low high n (omega (arith, small)) from to) in
-    ap (λ (b : Bool). number_if b text) is ∙ ap Some (sym (ap number spelled) ∙ number_of n (omega (arith, small)))
