@@ -1,7 +1,7 @@
 //! The checks of a line that speak of the lines above it, in their order.
-ghost use Rattle.std.specs.Prelude.{◌≡◌, false, None};
-ghost use Rattle.std.specs.List.{list_any};
-ghost use Rattle.ojp_values.specs.Texts.{same};
+ghost use Rattle.std.specs.Prelude.{◌≡◌, ◌≤◌, false, length, None, position};
+ghost use Rattle.std.specs.List.{list_any, position_or_len};
+ghost use Rattle.ojp_values.specs.Texts.{code_part, is_colon, same};
 ghost use Rattle.ojp_values.specs.declared.trips.Neighbour.{Neighbour as NeighbourValue};
 ghost use Rattle.ojp_timetable.specs.WellContents.{Passes};
 ghost use Rattle.ojp_timetable.specs.Checks.{checks, departed, falls_from, first_failing, has_neighbour, is_before, is_doubled, is_falling, is_foreign, is_full, is_stop_elsewhere, lacks_service, lacks_stop, later_of};
@@ -19,15 +19,33 @@ fn is_same(text: &[u8], other: &[u8]) -> bool
     text == other
 }
 
+// Where the first colon stands.
+fn first_colon(text: &[u8]) -> Option<usize>
+    ensures { result ≡ position is_colon text.now }
+{
+    text.iter().position(|b| *b == b':')
+}
+
+// The number of bytes before the first colon.
+fn colon_place(text: &[u8]) -> usize
+    ensures value { result ≡ position_or_len is_colon text.now }
+    ensures fits { result ≤ length text.now }
+{
+    first_colon(text).unwrap_or(text.len())
+}
+
+// What stands before the first colon.
+fn code_part(text: &[u8]) -> &[u8]
+    ensures { result.now ≡ code_part text.now }
+{
+    text.split_at(colon_place(text)).0
+}
+
 // Whether this is an own stop of another region.
-#[tactic(auto, unfolding(ojp_values::specs::Texts::home))]
 fn is_stop_elsewhere(region: &[u8], stop: &StopRef) -> bool
     ensures { result ≡ is_stop_elsewhere region.now stop.now }
 {
-    match stop.region() {
-        None => false,
-        Some(code) => !is_same(code.text(), region),
-    }
+    !stop.is_exchange() && !is_same(code_part(stop.text()), region)
 }
 
 #[tactic(auto, unfolding(crate::specs::Checks::is_foreign))]

@@ -1,5 +1,5 @@
 //! Reading what a line says.
-ghost use Rattle.std.specs.Prelude.{◌≡◌, ◌≤◌, ◌↔◌, true, false, IsTrue, IsSome, IfSome, MatchOption, IfOk, ◌∷◌, [], List, ℕ};
+ghost use Rattle.std.specs.Prelude.{◌≡◌, ◌≤◌, ◌↔◌, true, false, IsTrue, IsSome, IfSome, MatchOption, IfOk, ◌∷◌, [], List, ℕ, codes};
 ghost use Rattle.std.specs.List.{list_all};
 ghost use Rattle.ojp_values.specs.Texts.{same};
 ghost use Rattle.ojp_timetable.specs.Lines.{IsWellLine, left_by, left_open};
@@ -165,7 +165,7 @@ fn read_journey(id: &[u8], service: &[u8], line: &[u8]) -> Result<Line, TableRea
 fn is_dash(text: &[u8]) -> bool
     ensures { result ≡ is_dash text.now }
 {
-    text == b"-".as_slice()
+    matches!(text, [b'-'])
 }
 
 // An offset or `-`; the outer `None` where the text is neither.
@@ -183,6 +183,7 @@ fn read_offset(text: &[u8]) -> Option<Option<u32>>
 }
 
 // A call with its arrival and its departure.
+#[inline(always)]
 fn read_call(stop: &[u8], arrives: &[u8], departs: &[u8]) -> Result<Call, TableReason>
     ensures value { called result ≡ call_said stop.now arrives.now departs.now }
     ensures within { IfOk result (λ call. IsOffset call.arrives × IsOffset call.departs) }
@@ -266,6 +267,7 @@ fn read_place_fields(shared: bool, fields: &mut Fields<'_>) -> Result<Line, Tabl
 }
 
 // The three fields that are left, if so many are.
+#[inline(always)]
 fn three<'a>(fields: &mut Fields<'a>) -> Option<(&'a [u8], &'a [u8], &'a [u8])>
     ensures { MatchOption result (IsNotThree fields.old) (λ found. fields.old ≡ found.0.now ∷ found.1.now ∷ found.2.now ∷ []) }
 {
@@ -318,6 +320,7 @@ fn read_journey_fields(fields: &mut Fields<'_>) -> Result<Line, TableReason>
 }
 
 // The fields behind `call`.
+#[inline(always)]
 fn read_call_fields(left: &Open, fields: &mut Fields<'_>) -> Result<Call, TableReason>
     ensures value { called result ≡ call_fields left.now fields.old }
     ensures within { IfOk result (λ call. IsOffset call.arrives × IsOffset call.departs) }
@@ -335,6 +338,14 @@ fn read_call_fields(left: &Open, fields: &mut Fields<'_>) -> Result<Call, TableR
     }
 }
 
+// Whether the text is `call`.
+#[tactic(auto, unfolding(ojp_values::specs::Texts::same))]
+fn is_call_word(text: &[u8]) -> bool
+    ensures { result ≡ same text.now (codes "call") }
+{
+    matches!(text, [b'c', b'a', b'l', b'l'])
+}
+
 /// Whether the line begins with the word of a call.
 #[tactic(auto, unfolding(crate::specs::Said::is_call_line))]
 pub fn is_call_line(line: &[u8]) -> bool
@@ -343,7 +354,7 @@ pub fn is_call_line(line: &[u8]) -> bool
     let mut fields = Fields::new(line);
     match fields.next() {
         None => false,
-        Some(word) => is_same(word, b"call"),
+        Some(word) => is_call_word(word),
     }
 }
 
