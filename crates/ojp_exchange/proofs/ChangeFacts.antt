@@ -1,21 +1,19 @@
 -- Which changes there are from a point, and that they are the edges of the book.
-use Rattle.std.proofs.Common.{◌≡◌, ℕ, ◌+◌, ◌<◌, ◌≤◌, ◌⊎◌, true, false, List, [], ◌∷◌, ◌++◌, Some, None, map, length, refl, sym, ◌∙◌, ap, subst, arith, slice_get, option_map, inl, inr, true≢false}
-use Rattle.std.specs.Prelude.{Option, MatchOption, ◌↔◌}
+use Rattle.std.proofs.Common.{◌≡◌, ℕ, ◌+◌, ◌<◌, ◌≤◌, ◌⊎◌, true, List, [], ◌∷◌, ◌++◌, Some, refl, sym, ◌∙◌, ap, subst, arith, slice_get, inl, inr, true≢false}
 use Rattle.std.proofs.lemmas.Bool.{cases_lt}
 use Rattle.std.proofs.lemmas.List.{append_assoc}
 use Rattle.std.proofs.lemmas.Option.{same_Some}
-use Rattle.std.proofs.Math.Nat.{eq-or-lt_of_le}
 use Rattle.ojp_values.specs.Lists.{Among, IsRising}
-use Rattle.ojp_values.specs.Texts.{Text, same}
+use Rattle.ojp_values.specs.Texts.{same}
 use Rattle.ojp_values.specs.declared.trips.Neighbour.{Neighbour}
 use Rattle.ojp_values.specs.declared.trips.Point.{Point}
-use Rattle.ojp_timetable.specs.Points.{IsPointOf, neighbour_lt}
+use Rattle.ojp_timetable.specs.Points.{neighbour_lt}
 use Rattle.ojp_timetable.proofs.Orders.{IsOrder, text_order}
-use Rattle.ojp_timetable.proofs.TextFacts.{is_same, same_is}
+use Rattle.ojp_timetable.proofs.TextFacts.{is_same}
 use Rattle.ojp_exchange.specs.declared.spots.Edge.{Edge}
 use Rattle.ojp_exchange.specs.Points.{HasNeighbour, HasNoNeighbour, IsStretch}
 use Rattle.ojp_exchange.specs.Places.{edge_to}
-use Rattle.ojp_exchange.specs.Tables.{AreChanges, AreInOrder, IsChangeAt}
+use Rattle.ojp_exchange.specs.Tables.{AreChanges, IsChangeAt}
 use Rattle.ojp_values.proofs.ListFacts.{among_append, among_append_left, among_append_right}
 use Rattle.ojp_exchange.proofs.RisingFacts.{rising_once}
 

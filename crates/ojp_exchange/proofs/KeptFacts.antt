@@ -1,5 +1,5 @@
 -- What a book keeps of the lists; a region of the lists has at most 255 points among all.
-use Rattle.std.proofs.Common.{◌≡◌, ◌≤◌, map, Bool, true, false, cond, List, [], ◌∷◌, length, subst, sym, ◌∙◌, arith, inl, inr, true≢false}
+use Rattle.std.proofs.Common.{◌≡◌, ◌≤◌, Bool, false, cond, List, [], ◌∷◌, length, subst, sym, ◌∙◌, arith, inl, inr, true≢false}
 use Rattle.std.specs.List.{count_by}
 use Rattle.std.specs.List.Sorted.{IsPermutation}
 use Rattle.std.proofs.lemmas.Bool.{cases_Bool}

@@ -13,3 +13,4 @@ pub mod SpotFacts
 pub mod TableFacts
 pub mod ChangeFacts
 pub mod WayFacts
+pub mod OrderFacts

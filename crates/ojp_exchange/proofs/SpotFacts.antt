@@ -1,5 +1,5 @@
 -- The places of a book: what stands where, and which stops a region serves.
-use Rattle.std.proofs.Common.{◌≡◌, ℕ, ◌<◌, ◌&&◌, ◌||◌, Bool, true, false, List, Option, Some, None, map, length, refl, sym, ◌∙◌, ap, subst, arith, slice_get, is_some, option_map, inl, inr, true≢false}
+use Rattle.std.proofs.Common.{◌≡◌, ℕ, ◌&&◌, ◌||◌, Bool, true, false, List, Option, Some, None, map, refl, sym, ◌∙◌, ap, slice_get, is_some, option_map, inl, inr}
 use Rattle.std.specs.Prelude.{MatchOption}
 use Rattle.std.specs.List.{list_any}
 use Rattle.std.proofs.lemmas.Bool.{and_from, and_parts, cases_Bool}

@@ -9,10 +9,10 @@ use Rattle.ojp_values.specs.Texts.{Text, same, text_lt}
 use Rattle.ojp_values.specs.declared.trips.Point.{Point}
 use Rattle.ojp_timetable.proofs.Orders.{both, not_before_itself}
 use Rattle.ojp_timetable.proofs.PointOrder.{lt_carried, lt_other}
-use Rattle.ojp_timetable.proofs.ReadFacts.{read_once}
+use Rattle.ojp_timetable.proofs.ReadFacts.{at_among, read_once}
 use Rattle.ojp_timetable.proofs.TextFacts.{is_same, same_is}
 use Rattle.ojp_exchange.specs.Book.{Spot}
-use Rattle.ojp_exchange.specs.Kept.{book_of, entry_lt, regions_of, spot_of}
+use Rattle.ojp_exchange.specs.Kept.{HasNoPoint, IsPointAt, book_of, entry_lt, regions_of, spot_of}
 use Rattle.ojp_exchange.specs.Points.{AreParted, IsStretch}
 use Rattle.ojp_exchange.proofs.RisingFacts.{rising_at, up_to}
 
@@ -132,6 +132,26 @@ stretch_next points place from to here at stretch = (
 
     inside : place + 1 ≤ to
     inside = elim (cases_lt place to) [ inl l ↦ omega (arith, l) | inr g ↦ absurd (true≢false (sym (is_same here.stop here.stop refl) ∙ stretch.behind place here at g)) ]
+
+-- a point of the region within the stretch is that of the region at the stop
+pub in_stretch : (points : List Point) (stop region : Text) (from to place : ℕ) (at : Point) → IsStretch points stop from to → slice_get points place ≡ Some at → from ≤ place → place < to
+    → at.region ≡ region → IsPointAt points stop region place
+in_stretch points stop region from to place at stretch read low less is =
+    record { point = at; at = read; stop_is = sym (same_is stop at.stop (stretch.inside place at read low less)); region_is = is }
+
+-- a region without a point within the stretch has none at the stop
+pub none_within : (points : List Point) (stop region : Text) (from to : ℕ) → IsStretch points stop from to
+    → ((k : ℕ) (x : Point) → slice_get points k ≡ Some x → from ≤ k → k < to → x.region ≡ region → ⊥) → HasNoPoint points stop region
+none_within points stop region from to stretch none point a s r =
+    let at = at_among points point a in
+    let here = is_same stop point.stop (sym s) in
+    elim (cases_lt at.0 from) [
+      | inl l ↦ absurd (true≢false (sym here ∙ stretch.before at.0 point at.1 l))
+      | inr low ↦ elim (cases_lt at.0 to) [
+        | inl l ↦ none at.0 point at.1 low l r
+        | inr g ↦ absurd (true≢false (sym here ∙ stretch.behind at.0 point at.1 g))
+      ]
+    ]
 
 -- ---- the regions of the stretch
 

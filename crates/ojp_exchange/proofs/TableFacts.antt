@@ -1,6 +1,6 @@
 -- Lists in parts, and what stands in the tables of a book.
-use Rattle.std.proofs.Common.{◌≡◌, ℕ, zero, suc, ◌+◌, ◌-◌, ◌<◌, ◌≤◌, Bool, true, false, not, cond, List, [], ◌∷◌, ◌++◌, Some, slice_get, length, get_or, take, drop, refl, sym, ◌∙◌, ap, subst, inl, inr, arith, slice_index}
-use Rattle.std.proofs.lemmas.List.{drop-append-le, get_or-append-add, get_or_append_left, get_or_default, length-append, take-append-le}
+use Rattle.std.proofs.Common.{◌≡◌, ℕ, zero, suc, ◌+◌, ◌-◌, ◌<◌, ◌≤◌, Bool, false, not, cond, List, [], ◌∷◌, ◌++◌, Some, slice_get, length, get_or, take, drop, refl, sym, ◌∙◌, ap, subst, inl, inr, arith, slice_index}
+use Rattle.std.proofs.lemmas.List.{drop-append-le, get_or_append_left, get_or_default, length-append, take-append-le}
 use Rattle.std.proofs.Math.Seq.{drop-append_seam, get_or-append_seam}
 use Rattle.std.proofs.Math.Nat.{eq-or-lt_of_le}
 use Rattle.ojp_values.specs.Lists.{Among}

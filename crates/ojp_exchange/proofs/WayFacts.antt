@@ -1,5 +1,5 @@
 -- Which places of a region lead on.
-use Rattle.std.proofs.Common.{◌≡◌, ℕ, zero, suc, ◌+◌, ◌-◌, ◌<◌, ◌≤◌, ◌&&◌, Bool, true, false, cond, List, [], ◌∷◌, ◌++◌, Some, map, take, drop, length, refl, sym, ◌∙◌, ap, subst, arith, slice_get, slice_index, nat_lt, inl, inr, true≢false}
+use Rattle.std.proofs.Common.{◌≡◌, ℕ, zero, suc, ◌+◌, ◌<◌, ◌&&◌, Bool, true, false, cond, List, [], ◌∷◌, ◌++◌, Some, map, length, refl, sym, ◌∙◌, ap, subst, arith, slice_get, slice_index, nat_lt, inl, inr, true≢false}
 use Rattle.std.specs.List.{filter, range_with_len}
 use Rattle.std.specs.Option.{option_map_or}
 use Rattle.std.proofs.lemmas.Bool.{and_parts, cases_Bool, cases_lt, lt-ltb, ltb-true}
@@ -8,16 +8,15 @@ use Rattle.std.proofs.lemmas.List.Elements.{filter-append}
 use Rattle.std.proofs.lemmas.Option.{same_Some, slice_get_within}
 use Rattle.ojp_values.specs.Lists.{Among, Pairwise}
 use Rattle.ojp_values.specs.Texts.{Text, same}
-use Rattle.ojp_values.specs.declared.trips.Neighbour.{Neighbour}
 use Rattle.ojp_values.specs.declared.trips.Point.{Point}
 use Rattle.ojp_timetable.proofs.AmongFacts.{any_true}
 use Rattle.ojp_timetable.proofs.ReadFacts.{among_at, at_among}
 use Rattle.ojp_timetable.proofs.TextFacts.{same_is}
 use Rattle.ojp_exchange.specs.declared.spots.Edge.{Edge}
 use Rattle.ojp_exchange.specs.Book.{Book, Link, Spot, has_region, leads_out}
-use Rattle.ojp_exchange.specs.Kept.{AreKept, IsPointAt, IsSound, IsWellBook, book_of, link_of, links_of, spot_of}
-use Rattle.ojp_exchange.specs.Places.{AreEdges, AreWays, IsEdge, IsNoCode, IsPairAt, IsSpotAt, leads_on}
-use Rattle.ojp_exchange.specs.Tables.{AreChanges, AreWaysIn, IsChangeAt, IsEdgeTable, is_way, part, ways_in}
+use Rattle.ojp_exchange.specs.Kept.{AreKept, IsPointAt, IsWellBook, book_of, link_of, links_of, spot_of}
+use Rattle.ojp_exchange.specs.Places.{AreEdges, AreWays, IsEdge, IsNoCode, IsSpotAt, leads_on}
+use Rattle.ojp_exchange.specs.Tables.{AreChanges, IsChangeAt, IsEdgeTable, is_way, part, ways_in}
 use Rattle.ojp_exchange.proofs.BookFacts.{leads_out_is, region_is}
 use Rattle.ojp_exchange.proofs.JoinFacts.{link_says}
 use Rattle.ojp_exchange.proofs.MadeFacts.{flat_among, map_among}

@@ -2,18 +2,16 @@
 
 ghost use Rattle.std.specs.Prelude.{◌≡◌, ◌++◌, map, IfOk, OnOk, IsSorted, IsPermutation};
 ghost use Rattle.std.specs.List.{filter, flat_map};
-ghost use Rattle.std.specs.Ordering.{is_lt};
 ghost use Rattle.std.specs.List.Sorted.{IsSortedBy};
 ghost use Rattle.ojp_values.specs.Texts.{same, text_lt};
 ghost use Rattle.ojp_values.specs.declared.trips.Point.{Point as PointValue};
 ghost use Rattle.ojp_exchange.specs.declared.region_points.RegionPoints.{RegionPoints as ListValue};
 ghost use Rattle.ojp_exchange.specs.Kept.{entry_lt, points_at};
 
-use crate::places::is_before;
+use crate::places::order_of;
 use crate::region_points::RegionPoints;
 use ojp_values::{Code, List, NoMemory, Point, StopRef};
 use std::alloc::Global;
-use std::cmp::Ordering;
 
 // A copy of the exchange point.
 fn copy_of(alloc: Global, point: &Point) -> Result<Point, NoMemory>
@@ -62,17 +60,6 @@ pub fn sorted_points(alloc: Global, lists: &[RegionPoints]) -> Result<Vec<Point>
     let mut points = all_points(alloc, lists)?;
     points.sort_unstable_by(|point, other| order_of(point, other));
     Ok(points)
-}
-
-// Where the point stands to the other; those of one region at one stop stand as they come.
-fn order_of(point: &Point, other: &Point) -> Ordering
-    ensures { is_lt result ≡ entry_lt point.now other.now }
-{
-    if is_before(point, other) {
-        Ordering::Less
-    } else {
-        Ordering::Greater
-    }
 }
 
 // The codes of the lists.

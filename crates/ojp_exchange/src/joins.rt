@@ -8,8 +8,9 @@ ghost use Rattle.ojp_values.specs.declared.trips.Point.{Point as PointValue};
 ghost use Rattle.ojp_exchange.specs.Kept.{entry_lt, spot_of, stops_of};
 ghost use Rattle.ojp_exchange.specs.Joins.{first_twice};
 ghost use Rattle.ojp_exchange.specs.Disputes.{AllReturn, IsFirstLacking, IsFirstPoint, IsLacking, IsLastThere, Returns};
+ghost use Rattle.ojp_exchange.specs.Points.{IsStretch};
 
-use crate::places::change_from;
+use crate::places::{change_within, count_before, count_through};
 use ojp_values::{Code, Neighbour, Point, StopRef};
 
 /// The first code that stands twice in a row.
@@ -72,25 +73,42 @@ pub fn has_code(codes: &[Code], code: &Code) -> bool
     codes.iter().any(|other| *code == *other)
 }
 
-// Whether the neighbour is one of the regions, and does not declare the point's region there.
-fn lacks(codes: &[Code], points: &[Point], point: &Point, neighbour: &Neighbour) -> bool
-    requires { IsRising entry_lt points.now }
+// Whether the neighbour is one of the regions, and does not declare the point's region there, where
+// the points at its stop are those from the one number to before the other.
+fn lacks(
+    codes: &[Code],
+    points: &[Point],
+    from: usize,
+    to: usize,
+    point: &Point,
+    neighbour: &Neighbour,
+) -> bool
+    requires rise { IsRising entry_lt points.now }
+    requires stretch { IsStretch points.now point.now.stop from to }
     ensures { MatchBool result (IsLacking codes.now points.now point.now neighbour.now) (Returns codes.now points.now point.now neighbour.now) }
 {
-    match change_from(points, &point.stop, &neighbour.code, &point.region) {
+    match change_within(points, from, to, &neighbour.code, &point.region) {
         Some(_) => false,
         None => has_code(codes, &neighbour.code),
     }
 }
 
-// The first neighbour of the point that lacks its return.
-fn first_lacking(codes: &[Code], points: &[Point], point: &Point) -> Option<Code>
-    requires { IsRising entry_lt points.now }
+// The first neighbour of the point that lacks its return, where the points at its stop are those
+// from the one number to before the other.
+fn first_lacking(
+    codes: &[Code],
+    points: &[Point],
+    from: usize,
+    to: usize,
+    point: &Point,
+) -> Option<Code>
+    requires rise { IsRising entry_lt points.now }
+    requires stretch { IsStretch points.now point.now.stop from to }
     ensures { MatchOption result (AllReturn codes.now points.now point.now) (IsFirstLacking codes.now points.now point.now) }
 {
     let neighbours = point.neighbours.as_slice();
     'neighbours: for neighbour in neighbours {
-        if lacks(codes, points, point, neighbour) {
+        if lacks(codes, points, from, to, point, neighbour) {
             return Some(neighbour.code);
         }
     }
@@ -110,8 +128,15 @@ pub fn first_dispute(codes: &[Code], points: &[Point]) -> Option<Dispute>
     requires { IsRising entry_lt points.now }
     ensures { MatchOption result ((point : PointValue) → Among point points.now → AllReturn codes.now points.now point) (λ found. IsFirstPoint codes.now points.now found.point found.left found.right) }
 {
-    'points: for point in points {
-        if let Some(right) = first_lacking(codes, points, point) {
+    let mut from = 0;
+    let mut to = 0;
+    'places: for place in 0..points.len() {
+        let point = &points[place];
+        if place == to {
+            from = count_before(points, &point.stop);
+            to = count_through(points, &point.stop, from);
+        }
+        if let Some(right) = first_lacking(codes, points, from, to, point) {
             return Some(Dispute {
                 point: point.stop,
                 left: point.region,

@@ -1,20 +1,25 @@
 //! Look-ups among exchange points that rise by stop and region. None takes memory.
 
-ghost use Rattle.std.specs.Prelude.{◌≡◌, ◌≢◌, ◌<◌, ◌≤◌, ◌∷◌, [], false, true, Some, length, slice_get, MatchBool, MatchOption};
+ghost use Rattle.std.specs.Prelude.{◌≡◌, ◌≢◌, ◌<◌, ◌≤◌, ◌∷◌, [], false, true, Some, length, slice_get, IfSome, MatchBool, MatchOption};
+ghost use Rattle.std.specs.Ordering.{is_lt};
 ghost use Rattle.ojp_values.specs.Lists.{IsRising};
-ghost use Rattle.ojp_values.specs.Texts.{same, text_lt};
+ghost use Rattle.ojp_values.specs.Texts.{Text, same, text_lt};
 ghost use Rattle.ojp_exchange.specs.Kept.{entry_lt, HasNoPoint, IsPointAt, Says, SaysNothing};
 ghost use Rattle.ojp_exchange.specs.Places.{IsCodeAt, IsNoCode};
 ghost use Rattle.ojp_exchange.specs.Points.{AreParted, HasNeighbour, HasNoNeighbour, IsStretch};
 
 use ojp_values::{Code, Neighbour, Point, StopRef};
+use std::cmp::Ordering;
 
-/// Whether the point stands before the other, by stop and region.
+/// Where the point stands to the other, by stop and region.
 #[tactic(auto, unfolding(ojp_values::specs::Texts::text_lt, ojp_values::specs::Texts::same))]
-pub fn is_before(point: &Point, other: &Point) -> bool
-    ensures { result ≡ entry_lt point.now other.now }
+pub fn order_of(point: &Point, other: &Point) -> Ordering
+    ensures { is_lt result ≡ entry_lt point.now other.now }
 {
-    point.stop < other.stop || (point.stop == other.stop && point.region < other.region)
+    match point.stop.cmp(&other.stop) {
+        Ordering::Equal => point.region.cmp(&other.region),
+        order => order,
+    }
 }
 
 // Whether the point stands before that of the region at the stop.
@@ -79,6 +84,46 @@ pub fn change_from(points: &[Point], stop: &StopRef, region: &Code, other: &Code
     ensures { MatchOption result (SaysNothing points.now stop.now region.now other.now) (Says points.now stop.now region.now other.now) }
 {
     match place_of(points, stop, region) {
+        None => None,
+        Some(place) => change_among(points[place].neighbours.as_slice(), other),
+    }
+}
+
+// Whether the point is one of the region.
+fn is_in(point: &Point, region: &Code) -> bool
+    ensures { MatchBool result (point.now.region ≡ region.now) (point.now.region ≢ region.now) }
+{
+    point.region == *region
+}
+
+// The number of the region's point among those from the one number to before the other.
+fn place_within(points: &[Point], from: usize, to: usize, region: &Code) -> Option<usize>
+    requires { to ≤ length points.now }
+    ensures within { IfSome result (λ place. place < length points.now) }
+    ensures found { (stop : Text) → IsStretch points.now stop from to → MatchOption result (HasNoPoint points.now stop region.now) (IsPointAt points.now stop region.now) }
+{
+    'points: for place in from..to {
+        if is_in(&points[place], region) {
+            return Some(place);
+        }
+    }
+    None
+}
+
+/// The time that the region declares for a change at the stop from the other, where the points there
+/// are those from the one number to before the other.
+pub fn change_within(
+    points: &[Point],
+    from: usize,
+    to: usize,
+    region: &Code,
+    other: &Code,
+) -> Option<u32>
+    requires rise { IsRising entry_lt points.now }
+    requires within { to ≤ length points.now }
+    ensures { (stop : Text) → IsStretch points.now stop from to → MatchOption result (SaysNothing points.now stop region.now other.now) (Says points.now stop region.now other.now) }
+{
+    match place_within(points, from, to, region) {
         None => None,
         Some(place) => change_among(points[place].neighbours.as_slice(), other),
     }

@@ -20,4 +20,4 @@ lacks_known codes points point neighbour true e nothing =
 lacks_known codes points point neighbour false e nothing = λ a. absurd (true≢false (sym (same_itself neighbour.code) ∙ any_false (same neighbour.code) neighbour.code codes (sym e) a))
 
 pub returns-in-None : goal.returns-in-None
-returns-in-None c = lacks_known c.args.codes.now c.args.points.now c.args.point.now c.args.neighbour.now c.has_code.result c.has_code.ensures c.in-None.ensures
+returns-in-None c = lacks_known c.args.codes.now c.args.points.now c.args.point.now c.args.neighbour.now c.has_code.result c.has_code.ensures (c.in-None.ensures c.args.point.now.stop c.requires.stretch)

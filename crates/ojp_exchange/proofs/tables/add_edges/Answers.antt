@@ -1,4 +1,4 @@
-use Rattle.std.proofs.Common.{rules, ◌≡◌, ℕ, ◌+◌, ◌<◌, ◌≤◌, ◌++◌, ◌∷◌, [], List, get_or, length, refl, sym, ◌∙◌, ap, subst, arith}
+use Rattle.std.proofs.Common.{◌≡◌, ℕ, ◌+◌, ◌<◌, ◌≤◌, ◌++◌, ◌∷◌, [], List, get_or, length, refl, sym, ◌∙◌, ap, subst, arith}
 use Rattle.std.specs.Prelude.{MatchOption}
 use Rattle.std.proofs.lemmas.Option.{slice_get_read}
 use Rattle.ojp_values.specs.Texts.{Text}
@@ -10,7 +10,6 @@ use Rattle.ojp_timetable.proofs.TextFacts.{same_is}
 use Rattle.ojp_exchange.specs.declared.spots.Edge.{Edge}
 use Rattle.ojp_exchange.specs.Points.{HasNeighbour, HasNoNeighbour}
 use Rattle.ojp_exchange.specs.Places.{edge_to}
-use Rattle.ojp_exchange.specs.Tables.{AreChangesAdded}
 use Rattle.ojp_exchange.proofs.ChangeFacts.{AreChangesTo, all_there, none_there, one_there}
 use Rattle.ojp_exchange.proofs.RisingFacts.{each_among}
 use Rattle.ojp_exchange.proofs.TableFacts.{pushed_one}

@@ -1,7 +1,6 @@
-use Rattle.std.proofs.Common.{◌≡◌, ℕ, ◌+◌, ◌<◌, ◌≤◌, ◌++◌, ◌∷◌, [], Some, length, slice_get, refl, sym, ◌∙◌, ap, subst, arith, inl, inr}
+use Rattle.std.proofs.Common.{◌≡◌, ℕ, ◌<◌, ◌++◌, ◌∷◌, [], length, refl, sym, ◌∙◌, ap, subst, arith, inl, inr}
 use Rattle.std.proofs.Math.Nat.{eq-or-lt_of_le}
 use Rattle.std.proofs.lemmas.Option.{same_Some, slice_get_read}
-use Rattle.ojp_values.specs.Texts.{Text}
 use Rattle.ojp_values.specs.declared.trips.Point.{Point}
 use Rattle.ojp_exchange.specs.Points.{IsStretch}
 use Rattle.ojp_exchange.specs.Tables.{AreChanges, AreParts, IsStretchOf}

@@ -1,4 +1,4 @@
-use Rattle.std.proofs.Common.{◌≡◌, ◌<◌, ◌+◌, List, length, map, sym, subst, ap, arith, ◌∙◌}
+use Rattle.std.proofs.Common.{◌<◌, ◌+◌, length, ap, arith}
 use Rattle.std.proofs.lemmas.List.{length-map}
 use Rattle.ojp_exchange.specs.Book.{Book}
 use Rattle.ojp_exchange.specs.Kept.{book_of, spot_of}

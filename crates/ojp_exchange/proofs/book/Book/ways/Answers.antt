@@ -1,4 +1,4 @@
-use Rattle.std.proofs.Common.{◌≡◌, ◌<◌, ◌+◌, ℕ, length, slice_get, sym, subst, ap, arith, ◌∙◌}
+use Rattle.std.proofs.Common.{◌<◌, ◌+◌, length, slice_get, subst, ap, arith, ◌∙◌}
 use Rattle.std.proofs.lemmas.Option.{slice_get_within}
 use Rattle.ojp_exchange.specs.Book.{Book}
 use Rattle.ojp_exchange.specs.Kept.{IsWellBook, book_of}
