@@ -40,6 +40,7 @@ pub trait Doors {
         ensures given { IfOk result (λ connection. Gives (seen self.old) (seen self.new)
             (had_by (Self.In.seen connection.0) (Self.Out.seen connection.1))) }
         ensures empty { IfOk result (λ connection. IfSome (Self.Out.seen connection.1).written (λ bytes. bytes ≡ [])) }
+        ensures told_empty { IfOk result (λ connection. IfSome (seen self.old).returned (λ entries. (Self.Out.seen connection.1).written ≡ Some [])) }
         ensures kept { OnErr result (seen self.new ≡ seen self.old) }
         ensures closed { result ≡ Err DoorRefused.Closed ↔ IsTrue (has_all (seen self.old).asked (seen self.old).given) }
         ensures later { faults self.old ≤ faults self.new }

@@ -26,7 +26,7 @@ impl<R: Files + Drop> FileStore<R> {
 
 /// Reads a file whole, within the limit.
 fn read_whole<R: Files>(files: &R, alloc: Global, name: &str) -> Result<Vec<u8>, StoreRefused>
-    ensures limit { IfOk result (λ bytes. vec_len bytes ≤ 16777216) }
+    ensures limit { IfOk result (λ bytes. vec_len bytes ≤ FILE_LIMIT) }
 {
     let Ok(file) = fs::open(files, name) else {
         return Err(StoreRefused::Failed);

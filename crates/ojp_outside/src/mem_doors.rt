@@ -75,6 +75,13 @@ impl MemDoors {
         })
     }
 
+    /// How many connections came back.
+    pub fn returned(&self) -> usize
+        ensures { result ≡ length self.now.returned }
+    {
+        self.returned.len()
+    }
+
     /// What the `i`-th connection that came back wrote.
     pub fn written(&self, i: usize) -> &[u8]
         requires { i < length self.now.returned }
@@ -120,6 +127,7 @@ impl Doors for MemDoors {
         ensures given { IfOk result (λ connection. Gives (seen_of self.old) (seen_of self.new)
             (had_by (source_of connection.0) (sink_of connection.1))) }
         ensures empty { IfOk result (λ connection. connection.1.written ≡ []) }
+        ensures told_empty { IfOk result (λ connection. Some connection.1.written ≡ Some []) }
         ensures kept { OnErr result (seen_of self.new ≡ seen_of self.old) }
         ensures closed { result ≡ Err DoorRefused.Closed ↔ IsTrue (has_all self.old.asked self.old.given) }
         ensures later { self.old.faults ≤ self.new.faults }

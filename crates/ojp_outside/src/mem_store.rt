@@ -78,9 +78,9 @@ impl Store for MemStore {
     #[tactic(auto, using(crate::proofs::Named::first_named_is))]
     fn read_file(&mut self, alloc: Global, name: &str) -> Result<Vec<u8>, StoreRefused>
         ensures ok { IfOk result (λ bytes. first_named self.old.files name.now ≡ Some bytes.items) }
-        ensures limit { IfOk result (λ bytes. vec_len bytes ≤ 16777216) }
+        ensures limit { IfOk result (λ bytes. vec_len bytes ≤ FILE_LIMIT) }
         ensures missing { first_named self.old.files name.now ≡ None → (result ≡ Err StoreRefused.Failed) ⊎ (result ≡ Err StoreRefused.NoMemory) }
-        ensures too_long { result ≡ Err StoreRefused.TooLong → IsSomeAnd (first_named self.old.files name.now) (λ bytes. 16777216 < length bytes) }
+        ensures too_long { result ≡ Err StoreRefused.TooLong → IsSomeAnd (first_named self.old.files name.now) (λ bytes. FILE_LIMIT < length bytes) }
         ensures kept { Some (first_named self.new.files) ≡ Some (first_named self.old.files) }
         ensures failed_name { Some self.new.failed_name ≡ failed_name_after (Some self.old.failed_name) result name.now }
         ensures later { self.old.faults ≤ self.new.faults }
@@ -106,8 +106,8 @@ impl Store for MemStore {
 /// A copy of the bytes, where they are within the limit.
 fn whole(alloc: Global, bytes: &[u8]) -> Result<Vec<u8>, StoreRefused>
     ensures ok { IfOk result (λ copy. copy.items ≡ bytes.now) }
-    ensures limit { IfOk result (λ copy. vec_len copy ≤ 16777216) }
-    ensures too_long { result ≡ Err StoreRefused.TooLong → 16777216 < length bytes.now }
+    ensures limit { IfOk result (λ copy. vec_len copy ≤ FILE_LIMIT) }
+    ensures too_long { result ≡ Err StoreRefused.TooLong → FILE_LIMIT < length bytes.now }
     ensures not_failed { result ≢ Err StoreRefused.Failed }
 {
     if bytes.len() > FILE_LIMIT {

@@ -6,7 +6,7 @@ ghost use Rattle.ojp_outside.specs.Seen.{StoreView};
 
 use std::alloc::Global;
 
-/// The most bytes of a file that is read.
+/// The most bytes of a file that is read: 16 MiB.
 pub const FILE_LIMIT: usize = 16_777_216;
 
 /// Why a file was not read.
@@ -14,7 +14,7 @@ pub const FILE_LIMIT: usize = 16_777_216;
 pub enum StoreRefused {
     /// A read failed, or there is no such file.
     Failed,
-    /// The file has more than 16,777,216 bytes.
+    /// The file has more than `FILE_LIMIT` bytes.
     TooLong,
     /// Memory ran out.
     NoMemory,
@@ -26,13 +26,13 @@ pub trait Store {
     /// how often a read failed.
     ghost seen: { Self → StoreView };
 
-    /// Reads a file whole, at most 16,777,216 bytes.
+    /// Reads a file whole, at most `FILE_LIMIT` bytes.
     fn read_file(&mut self, alloc: Global, name: &str) -> Result<Vec<u8>, StoreRefused>
         ensures ok { IfOk result (λ bytes. IsContents (seen self.old).contents name.now bytes.items) }
-        ensures limit { IfOk result (λ bytes. vec_len bytes ≤ 16777216) }
+        ensures limit { IfOk result (λ bytes. vec_len bytes ≤ FILE_LIMIT) }
         ensures missing { IfSome (seen self.old).contents (λ files. files name.now ≡ None → (result ≡ Err StoreRefused.Failed) ⊎ (result ≡ Err StoreRefused.NoMemory)) }
         ensures too_long { result ≡ Err StoreRefused.TooLong
-            → IfSome (seen self.old).contents (λ files. IsSomeAnd (files name.now) (λ bytes. 16777216 < length bytes)) }
+            → IfSome (seen self.old).contents (λ files. IsSomeAnd (files name.now) (λ bytes. FILE_LIMIT < length bytes)) }
         ensures kept { (seen self.new).contents ≡ (seen self.old).contents }
         ensures failed_name { (seen self.new).failed_name ≡ failed_name_after (seen self.old).failed_name result name.now }
         ensures later { (seen self.old).faults ≤ (seen self.new).faults }
