@@ -12,11 +12,12 @@ use crate::fields::body;
 use crate::lines::{Line, Open, TableReason};
 use crate::refusals::LineRefused;
 use crate::said::{is_call_line, is_closed, left_by, left_open, read_call_line, read_said};
+use ojp_outside::FILE_LIMIT;
 use std::alloc::Global;
 use std::marker::Model;
 
 /// The most bytes that a file may have.
-pub const BYTES: u64 = 16_777_216;
+pub const BYTES: u64 = FILE_LIMIT as u64;
 
 /// The lines above the next one: how many, their bytes, what they leave open and what they declare.
 #[derive(Drop)]
