@@ -3,6 +3,7 @@ use Rattle.std.specs.Prelude.{◌≡◌, ℕ, ◌<◌, ◌≤◌, length, Option
 use Rattle.ojp_values.specs.Texts.{Text}
 use Rattle.ojp_outside.specs.Causes.{Rose, Rests}
 use Rattle.ojp_outside.specs.Files.{IsContents}
+use Rattle.ojp_outside.specs.declared.store.TheConstants.{FILE_LIMIT}
 use Rattle.ojp_timetable.specs.Tables.{Timetable}
 use Rattle.ojp_timetable.specs.TableText.{IsText, IsRefused}
 use Rattle.ojp_timetable.specs.declared.lines.TableReason.{TableReason}
@@ -13,10 +14,6 @@ use Rattle.ojp_cli.specs.declared.failures.Failure.TheVariants as failures
 use Rattle.ojp_cli.specs.declared.files.FileRefused.{FileRefused}
 use Rattle.ojp_cli.specs.declared.files.FileRefused.TheVariants.{Failed, TooLong, At, NoMemory}
 
--- the most bytes of a file
-abbrev pub file_limit : ℕ
-file_limit = 16777216
-
 -- nothing that is seen of the store changed
 abbrev pub StandsAsBefore : {F : Type 0} → Lent F StoreView → Type 0
 StandsAsBefore store = after store ≡ before store
@@ -25,7 +22,7 @@ StandsAsBefore store = after store ≡ before store
 pub record IsFileOf {F : Type 0} (file : Text) (store : Lent F StoreView) (table : Timetable) : Type 0 where
   pub bytes : Text
   pub held : IsContents (before store).contents file bytes
-  pub within : length bytes ≤ file_limit
+  pub within : length bytes ≤ FILE_LIMIT
   pub is_text : IsText bytes table
   pub same : StandsAsBefore store
 
@@ -41,14 +38,14 @@ pub record FailsToOpen {F : Type 0} (file : Text) (store : Lent F StoreView) : T
 
 -- the file is there and has more bytes than a file may have, where the store tells its files
 pub record IsTooLong {F : Type 0} (file : Text) (store : Lent F StoreView) : Type 0 where
-  pub above : IfSome (before store).contents (λ files. IsSomeAnd (files file) (λ bytes. file_limit < length bytes))
+  pub above : IfSome (before store).contents (λ files. IsSomeAnd (files file) (λ bytes. FILE_LIMIT < length bytes))
   pub same : StandsAsBefore store
 
 -- the file, where the store tells its contents, is refused at the line for the reason
 pub record IsRefusedFile {F : Type 0} (file : Text) (store : Lent F StoreView) (line : ℕ) (reason : TableReason) : Type 0 where
   pub bytes : Text
   pub held : IsContents (before store).contents file bytes
-  pub within : length bytes ≤ file_limit
+  pub within : length bytes ≤ FILE_LIMIT
   pub refused : IsRefused bytes line reason
   pub same : StandsAsBefore store
 
@@ -79,5 +76,5 @@ pub record IsReadable {F : Type 0} (file : Text) (store : Lent F StoreView) (byt
 pub record IsGood {F : Type 0} (file : Text) (store : Lent F StoreView) (table : Timetable) : Type 0 where
   pub bytes : Text
   pub readable : IsReadable file store bytes
-  pub within : length bytes ≤ file_limit
+  pub within : length bytes ≤ FILE_LIMIT
   pub is_text : IsText bytes table

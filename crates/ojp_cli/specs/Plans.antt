@@ -5,6 +5,7 @@ use Rattle.ojp_values.specs.declared.asks.Ask.{Ask}
 use Rattle.ojp_values.specs.declared.documents.Doc.TheVariants as docs
 use Rattle.ojp_values.specs.declared.replies.Delivery.{Delivery}
 use Rattle.ojp_outside.specs.Causes.{Rests}
+use Rattle.ojp_outside.specs.declared.store.TheConstants.{FILE_LIMIT}
 use Rattle.ojp_timetable.specs.Tables.{Timetable}
 use Rattle.ojp_timetable.specs.TableText.{IsRefused as IsTableRefused}
 use Rattle.ojp_timetable.specs.declared.lines.TableReason.{TableReason}
@@ -16,7 +17,7 @@ use Rattle.ojp_cli.specs.Answered.{Answered}
 use Rattle.ojp_outside.specs.Seen.{SourceView, SinkView, StoreView}
 use Rattle.ojp_cli.specs.Lent.{Lent, before, after, IsUnused, Gains, GainsInPart}
 use Rattle.ojp_cli.specs.Inputs.{IsDocumentOf, IsNoDocument, FailsToRead, IsReadInPart, IsHeard}
-use Rattle.ojp_cli.specs.Files.{file_limit, StandsAsBefore, IsFileOf, IsAccepted, FailsToOpen, IsTooLong, IsRefusedFile, IsReadable, IsGood}
+use Rattle.ojp_cli.specs.Files.{StandsAsBefore, IsFileOf, IsAccepted, FailsToOpen, IsTooLong, IsRefusedFile, IsReadable, IsGood}
 use Rattle.ojp_cli.specs.declared.failures.Failure.{Failure}
 use Rattle.ojp_cli.specs.declared.failures.Failure.TheVariants.{Document, Words, Unread, TooLong, Input, Output, Memory, Line}
 
@@ -60,9 +61,9 @@ PlanFails file store input output (Line name line reason) = (name.now ≡ file) 
 -- the status that is due where file and input tell their bytes and no count rose
 pub data PlanIsDue {F I O : Type 0} (file : Text) (store : Lent F StoreView) (input : Lent I SourceView) (output : Lent O SinkView) : ℕ → Type 0 where
   -- the file has more bytes than a file may have
-  too_long : (bytes : Text) → IsReadable file store bytes → file_limit < length bytes → PlanIsDue file store input output 3
+  too_long : (bytes : Text) → IsReadable file store bytes → FILE_LIMIT < length bytes → PlanIsDue file store input output 3
   -- the file is no timetable
-  no_table : (bytes : Text) → IsReadable file store bytes → length bytes ≤ file_limit
+  no_table : (bytes : Text) → IsReadable file store bytes → length bytes ≤ FILE_LIMIT
       → (line : ℕ) (reason : TableReason) → IsTableRefused bytes line reason → PlanIsDue file store input output 6
   -- the input is no request
   no_request : (table : Timetable) → IsGood file store table → (bytes : Text) → IsHeard input bytes
