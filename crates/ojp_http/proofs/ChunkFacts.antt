@@ -1,15 +1,12 @@
 -- A chunk line ends at its first line feed.
-use Rattle.std.proofs.Common.{◌≡◌, ℕ, Bool, true, false, not, ◌&&◌, List, [], ◌∷◌, ◌++◌, refl, sym, ap, ◌∙◌, inl, inr}
+use Rattle.std.proofs.Common.{◌≡◌, ℕ, true, false, not, ◌&&◌, List, [], ◌∷◌, ◌++◌, sym, ap, ◌∙◌, inl, inr}
 use Rattle.std.specs.Prelude.{◌==◌}
 use Rattle.std.proofs.lemmas.List.Folds.{list_all-append}
 use Rattle.httparse.specs.Grammar.{ChunkLine, ReadsChunkLine, print_chunk_line, print_extension}
 use Rattle.ojp_http.specs.ChunkLines.{EndsLine}
 use Rattle.ojp_http.specs.Bodies.{has_no_feed}
 use Rattle.ojp_http.proofs.Headed.{front_cases}
-
-and_false : (b : Bool) → (b && false) ≡ false
-and_false true = refl
-and_false false = refl
+use Rattle.ojp_http.proofs.Tests.{and_false}
 
 -- a chunk line has a line feed
 pub line_feeds : (l : ChunkLine) → has_no_feed (print_chunk_line l) ≡ false

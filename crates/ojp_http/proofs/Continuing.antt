@@ -1,6 +1,5 @@
 -- The body of a message that goes on begins with what came of it.
-use Rattle.std.proofs.Common.{◌≡◌, ℕ, List, [], ◌∷◌, ◌++◌, length, refl, sym, ap, ◌∙◌, arith, append_assoc, append-nil, subst, inl, inr, length-append, suc, zero, Option, None}
-use Rattle.std.proofs.lemmas.List.{nil_from_length}
+use Rattle.std.proofs.Common.{◌≡◌, ℕ, List, [], ◌∷◌, ◌++◌, length, refl, sym, ap, ◌∙◌, arith, append_assoc, subst, inl, inr, length-append, suc, zero, Option, None}
 use Rattle.httparse.specs.Grammar.{Field, print_chunk_line, chunk_size, ResponseHead, ReadsResponse}
 use Rattle.httparse.proofs.GrammarLemmas.{section_unique, response_unique}
 use Rattle.httparse.proofs.ChunkLemmas.{chunk_line_unique}
@@ -15,6 +14,8 @@ use Rattle.ojp_http.specs.Fields.{reply_frame}
 use Rattle.ojp_http.specs.Continued.{BodyGoesOn}
 use Rattle.ojp_http.proofs.Headed.{Grammar, two_fronts}
 use Rattle.ojp_http.proofs.Grammars.{trailers, responses}
+use Rattle.ojp_http.proofs.WholeMessages.{not_refused, not_cut, after_whole, behind}
+use Rattle.ojp_http.proofs.Unique.{same_split}
 
 -- the body of each whole message that the bytes go on to begins with what they hold of it
 abbrev pub GoesOn : (List ℕ → Verdict → Type 0) → (List ℕ → Verdict → Type 0) → Type 0
@@ -26,12 +27,6 @@ cut_whole q = cc
 cut_refused : {got : List ℕ} {e : Refusal} → cut got ≡ refused e → ⊥
 cut_refused q = cc
 
-whole_refused : {body rest : List ℕ} {e : Refusal} → whole body rest ≡ refused e → ⊥
-whole_refused q = cc
-
-whole_cut : {body rest got : List ℕ} → whole body rest ≡ cut got → ⊥
-whole_cut q = cc
-
 -- nothing came of the body yet
 from_nothing : (got body : List ℕ) → cut got ≡ cut [] → (tail : List ℕ) × (body ≡ got ++ tail)
 from_nothing got body q = let none : got ≡ [] = cc in (body, ap (λ (l : List ℕ). l ++ body) (sym none))
@@ -40,23 +35,6 @@ after_cut : (front : List ℕ) (w : Verdict) (got : List ℕ) → cut got ≡ af
 after_cut front (whole b r) got e = absurd (cc)
 after_cut front (refused q) got e = absurd (cc)
 after_cut front (cut g) got e = let x : got ≡ front ++ g = cc in (g, refl, x)
-
-after_whole : (front : List ℕ) (w : Verdict) (body rest : List ℕ) → whole body rest ≡ after front w → (b : List ℕ) × (w ≡ whole b rest) × (body ≡ front ++ b)
-after_whole front (whole b r) body rest e = let x : rest ≡ r = cc in let y : body ≡ front ++ b = cc in (b, ap (whole b) (sym x), y)
-after_whole front (refused q) body rest e = absurd (cc)
-after_whole front (cut b) body rest e = absurd (cc)
-
-behind : (bytes front rest more : List ℕ) → bytes ≡ front ++ rest → bytes ++ more ≡ front ++ (rest ++ more)
-behind bytes front rest more is = ap (λ (l : List ℕ). l ++ more) is ∙ append_assoc front rest more
-
-same_split : (a b c d : List ℕ) → a ++ b ≡ c ++ d → length a ≡ length c → (a ≡ c) × (b ≡ d)
-same_split a b c d e l =
-    elim (two_fronts a b c d e) [
-      | inl m ↦
-          let none : m.0 ≡ [] = nil_from_length m.0 (omega (arith, ap length m.1, length-append a m.0, l)) in
-          (sym (m.1 ∙ ap (λ (x : List ℕ). a ++ x) none ∙ append-nil a), m.2 ∙ ap (λ (x : List ℕ). x ++ d) none)
-      | inr m ↦ absurd (omega (arith, ap length m.2, length-append c m.0, l, m.1))
-    ]
 
 -- a front of the body, and then the rest of it
 join : (front g b got body tail : List ℕ) → got ≡ front ++ g → body ≡ front ++ b → b ≡ g ++ tail → body ≡ got ++ tail
@@ -72,7 +50,7 @@ takes_go_on n K L go bytes more got body rest (takes_all f r w is l k q) (takes_
     let same = same_split f (r ++ more) g s (sym (behind bytes f r more is) ∙ js) (l ∙ sym m) in
     let inner = go r more a.0 b.0 rest (subst (K r) a.1 k) (subst (λ (x : List ℕ). L x (whole b.0 rest)) (sym same.1) (subst (L s) b.1 j)) in
     (inner.0, join f a.0 b.0 got body inner.0 a.2 (b.2 ∙ ap (λ (x : List ℕ). x ++ b.0) (sym same.0)) inner.1)
-takes_go_on n K L go bytes more got body rest (takes_all f r w is l k q) (takes_short lt p) = absurd (whole_cut p)
+takes_go_on n K L go bytes more got body rest (takes_all f r w is l k q) (takes_short lt p) = absurd (not_cut p)
 takes_go_on n K L go bytes more got body rest (takes_short lt q) (takes_all g s z js m j p) =
     let b = after_whole g z body rest p in
     let here : got ≡ bytes = cc in
@@ -80,15 +58,15 @@ takes_go_on n K L go bytes more got body rest (takes_short lt q) (takes_all g s 
       | inl d ↦ (d.0 ++ b.0, b.2 ∙ ap (λ (x : List ℕ). x ++ b.0) d.1 ∙ append_assoc bytes d.0 b.0 ∙ ap (λ (x : List ℕ). x ++ (d.0 ++ b.0)) (sym here))
       | inr d ↦ absurd (omega (arith, ap length d.2, length-append g d.0, d.1, m, lt))
     ]
-takes_go_on n K L go bytes more got body rest (takes_short lt q) (takes_short mt p) = absurd (whole_cut p)
+takes_go_on n K L go bytes more got body rest (takes_short lt q) (takes_short mt p) = absurd (not_cut p)
 
 chunk_end_goes_on : (K L : List ℕ → Verdict → Type 0) → GoesOn K L → GoesOn (EndsChunk K) (EndsChunk L)
 chunk_end_goes_on K L go bytes more got body rest (chunk_ended r e k) (chunk_ended s f j) =
     let all : 13 ∷ 10 ∷ (r ++ more) ≡ 13 ∷ 10 ∷ s = ap (λ (l : List ℕ). l ++ more) (sym e) ∙ f in
     let same : s ≡ r ++ more = cc in
     go r more got body rest k (subst (λ (l : List ℕ). L l (whole body rest)) same j)
-chunk_end_goes_on K L go bytes more got body rest (chunk_ended r e k) (chunk_begun m f pos p) = absurd (whole_cut p)
-chunk_end_goes_on K L go bytes more got body rest (chunk_ended r e k) (chunk_other n p) = absurd (whole_refused p)
+chunk_end_goes_on K L go bytes more got body rest (chunk_ended r e k) (chunk_begun m f pos p) = absurd (not_cut p)
+chunk_end_goes_on K L go bytes more got body rest (chunk_ended r e k) (chunk_other n p) = absurd (not_refused p)
 chunk_end_goes_on K L go bytes more got body rest (chunk_begun m f pos q) y = from_nothing got body q
 chunk_end_goes_on K L go bytes more got body rest (chunk_other n q) y = absurd (cut_refused q)
 
@@ -97,9 +75,9 @@ line_goes_on K L go bytes more got body rest (line_reads l r x le k) (line_reads
     let same = chunk_line_unique (bytes ++ more) l m (r ++ more) s (x.0, behind bytes (print_chunk_line l) r more x.1) y in
     go (chunk_size l) r more got body rest k
     (subst (λ (n : ℕ). L n (r ++ more) (whole body rest)) (ap chunk_size (sym same.0)) (subst (λ (z : List ℕ). L (chunk_size m) z (whole body rest)) (sym same.1) j))
-line_goes_on K L go bytes more got body rest (line_reads l r x le k) (line_wrong front t e plain lt never p) = absurd (whole_refused p)
-line_goes_on K L go bytes more got body rest (line_reads l r x le k) (line_long front t e plain n p) = absurd (whole_refused p)
-line_goes_on K L go bytes more got body rest (line_reads l r x le k) (line_unended plain lt p) = absurd (whole_cut p)
+line_goes_on K L go bytes more got body rest (line_reads l r x le k) (line_wrong front t e plain lt never p) = absurd (not_refused p)
+line_goes_on K L go bytes more got body rest (line_reads l r x le k) (line_long front t e plain n p) = absurd (not_refused p)
+line_goes_on K L go bytes more got body rest (line_reads l r x le k) (line_unended plain lt p) = absurd (not_cut p)
 line_goes_on K L go bytes more got body rest (line_wrong front t e plain lt never q) y = absurd (cut_refused q)
 line_goes_on K L go bytes more got body rest (line_long front t e plain n q) y = absurd (cut_refused q)
 line_goes_on K L go bytes more got body rest (line_unended plain lt q) y = from_nothing got body q
@@ -112,9 +90,9 @@ module _ {H : Type 0} (R : List ℕ → H → List ℕ → Type 0) (fields : H �
       let other : R (bytes ++ more) g s = subst (λ (b : List ℕ). R b g s) (sym y.is) (grammar.more y.front g [] s y.reads) in
       let same = unique (bytes ++ more) h g (r ++ more) s (grammar.more bytes h r more read) other in
       go h r more got body rest k (subst (λ (f : H). K f (r ++ more) (whole body rest)) (sym same.0) (subst (λ (t : List ℕ). K g t (whole body rest)) (sym same.1) j))
-  begins_goes_on extra grammar unique K go bytes more got body rest (head_found h r x k) (head_malformed n m p) = absurd (whole_refused p)
-  begins_goes_on extra grammar unique K go bytes more got body rest (head_found h r x k) (head_full n m p) = absurd (whole_refused p)
-  begins_goes_on extra grammar unique K go bytes more got body rest (head_found h r x k) (head_begun n m p) = absurd (whole_cut p)
+  begins_goes_on extra grammar unique K go bytes more got body rest (head_found h r x k) (head_malformed n m p) = absurd (not_refused p)
+  begins_goes_on extra grammar unique K go bytes more got body rest (head_found h r x k) (head_full n m p) = absurd (not_refused p)
+  begins_goes_on extra grammar unique K go bytes more got body rest (head_found h r x k) (head_begun n m p) = absurd (not_cut p)
   begins_goes_on extra grammar unique K go bytes more got body rest (head_malformed n m q) y = absurd (cut_refused q)
   begins_goes_on extra grammar unique K go bytes more got body rest (head_full n m q) y = absurd (cut_refused q)
   begins_goes_on extra grammar unique K go bytes more got body rest (head_begun n m q) y = from_nothing got body q
@@ -128,12 +106,12 @@ trailer_goes_on =
 sized_goes_on : (K L : Option ℕ → List ℕ → Verdict → Type 0) → ((room : Option ℕ) → GoesOn (K room) (L room)) → (room : Option ℕ) (size : ℕ) → GoesOn (Sized K room size) (Sized L room size)
 sized_goes_on K L go room size bytes more got body rest (size_last e t) (size_last f u) = trailer_goes_on bytes more got body rest t u
 sized_goes_on K L go room size bytes more got body rest (size_last e t) (size_chunk pos a u) = absurd (omega (arith, e, pos))
-sized_goes_on K L go room size bytes more got body rest (size_last e t) (size_over a p) = absurd (whole_refused p)
+sized_goes_on K L go room size bytes more got body rest (size_last e t) (size_over a p) = absurd (not_refused p)
 sized_goes_on K L go room size bytes more got body rest (size_chunk pos a t) (size_last f u) = absurd (omega (arith, f, pos))
 sized_goes_on K L go room size bytes more got body rest (size_chunk pos a t) (size_chunk qos b u) =
     let left = room_after room size in
     takes_go_on size (EndsChunk (K left)) (EndsChunk (L left)) (chunk_end_goes_on (K left) (L left) (go left)) bytes more got body rest t u
-sized_goes_on K L go room size bytes more got body rest (size_chunk pos a t) (size_over b p) = absurd (whole_refused p)
+sized_goes_on K L go room size bytes more got body rest (size_chunk pos a t) (size_over b p) = absurd (not_refused p)
 sized_goes_on K L go room size bytes more got body rest (size_over a q) y = absurd (cut_refused q)
 
 lines_go_on : (n m : ℕ) (room : Option ℕ) → GoesOn (ReadsLines n room) (ReadsLines m room)

@@ -1,5 +1,5 @@
 -- Bytes that are full, by the count of their lines.
-use Rattle.std.proofs.Common.{◌≡◌, ℕ, ◌+◌, ◌≤◌, ◌⊎◌, Bool, true, false, not, ◌&&◌, ◌||◌, List, [], ◌∷◌, length, refl, sym, ap, ◌∙◌, arith, inl, inr, subst, nat_le, if◌then◌else◌}
+use Rattle.std.proofs.Common.{◌≡◌, ℕ, ◌+◌, ◌≤◌, Bool, true, false, not, ◌&&◌, ◌||◌, List, [], ◌∷◌, length, refl, sym, ap, ◌∙◌, arith, inl, inr, subst, nat_le, if◌then◌else◌}
 use Rattle.std.specs.Prelude.{◌==◌}
 use Rattle.ojp_http.specs.declared.scan.Begun.TheVariants.{Nothing, Return, Other}
 use Rattle.ojp_http.specs.declared.scan.Begun.{Begun}
@@ -8,6 +8,7 @@ use Rattle.ojp_http.specs.Scanned.{no_lines, scan_step, scan_from, is_full_by, e
 use Rattle.ojp_http.specs.Heads.{counted_lines, IsFullAt}
 use Rattle.ojp_http.proofs.Scans.{are_filled, counts}
 use Rattle.std.proofs.lemmas.Bool.Decides.{nat_tests}
+use Rattle.ojp_http.proofs.Tests.{or_cases, and_cases}
 
 pub le_of_test : (a b : ℕ) → nat_le a b ≡ true → a ≤ b
 le_of_test a b h = grind (arith, nat_tests)
@@ -15,21 +16,9 @@ le_of_test a b h = grind (arith, nat_tests)
 pub test_of_le : (a b : ℕ) → a ≤ b → nat_le a b ≡ true
 test_of_le a b h = grind (arith, nat_tests)
 
-true_of_and : (a b : Bool) → (a && b) ≡ true → (a ≡ true) × (b ≡ true)
-true_of_and true b e = (refl, e)
-true_of_and false b e = absurd (cc)
-
-pub not_true : (b : Bool) → not b ≡ true → b ≡ false
-not_true true e = absurd (cc)
-not_true false e = refl
-
 not_not : (b : Bool) → not (not b) ≡ b
 not_not true = refl
 not_not false = refl
-
-true_of_or : (a b : Bool) → (a || b) ≡ true → (a ≡ true) ⊎ (b ≡ true)
-true_of_or true b e = inl refl
-true_of_or false b e = inr e
 
 or_true : (a : Bool) → (a || true) ≡ false → ⊥
 or_true true x = cc
@@ -45,10 +34,10 @@ clash_right a {b} {c} e f o = let x : (a || (true && true)) ≡ false = (λ i. a
 pub full_by : (most : ℕ) (bytes : List ℕ) (s : Scan) → s ≡ scan_from no_lines bytes → is_full_by most (length bytes) s ≡ true → IsFullAt most bytes
 full_by most bytes s is full =
     let c = counts bytes in
-    elim (true_of_or (nat_le 16384 (length bytes)) (nat_le most s.counted && not s.has_empty) full) [
+    elim (or_cases (nat_le 16384 (length bytes)) (nat_le most s.counted && not s.has_empty) full) [
       | inl long ↦ inl (le_of_test 16384 (length bytes) long)
       | inr lined ↦
-          let two = true_of_and (nat_le most s.counted) (not s.has_empty) lined in
+          let two = and_cases (nat_le most s.counted) (not s.has_empty) lined in
           inr (
             subst (λ (n : ℕ). most ≤ n) (ap (λ (v : Scan). v.counted) is ∙ c.1.counted) (le_of_test most s.counted two.0),
             sym (not_not (are_filled (counted_lines bytes))) ∙ ap not (sym (ap (λ (v : Scan). v.has_empty) is ∙ c.1.has_empty)) ∙ two.1,

@@ -82,7 +82,7 @@ pub record Grammar {H : Type 0} (Reads : List ℕ → H → List ℕ → Type 0)
   pub front : (bytes : List ℕ) (h : H) (rest : List ℕ) → Reads bytes h rest → (front : List ℕ) × (bytes ≡ front ++ rest) × Reads front h []
   pub heading : (text : List ℕ) (h : H) → Reads text h [] → Heading (length (fields h) + extra) text
 
-no_end : (a : List ℕ) (x : ℕ) → [] ≡ a ++ x ∷ [] → ⊥
+pub no_end : (a : List ℕ) (x : ℕ) → [] ≡ a ++ x ∷ [] → ⊥
 no_end [] x e = cc
 no_end (y ∷ a) x e = cc
 

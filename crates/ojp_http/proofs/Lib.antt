@@ -9,6 +9,7 @@ pub mod ReplyFacts
 pub mod Requesting
 pub mod MachineFacts
 pub mod Scans
+pub mod Tests
 pub mod Stepping
 pub mod Tallies
 pub mod Unique

@@ -1,5 +1,5 @@
 -- Heads as lines that are not empty, behind empty ones.
-use Rattle.std.proofs.Common.{◌≡◌, ℕ, ◌+◌, ◌≤◌, ◌<◌, Bool, true, false, not, ◌&&◌, List, [], ◌∷◌, ◌++◌, length, refl, sym, ap, ◌∙◌, arith, append_assoc, append-nil, if◌then◌else◌, suc, zero}
+use Rattle.std.proofs.Common.{◌≡◌, ℕ, ◌+◌, ◌≤◌, ◌<◌, Bool, true, false, not, List, [], ◌∷◌, ◌++◌, length, refl, sym, ap, ◌∙◌, arith, append_assoc, append-nil, if◌then◌else◌, suc, zero}
 use Rattle.std.specs.Prelude.{◌==◌}
 use lib.Dec.{eqb-suc-zero}
 use Rattle.httparse.specs.Grammar.{LineEnd, crlf, lf, print_end, print_blank}
@@ -10,6 +10,7 @@ use Rattle.ojp_http.specs.Scanned.{no_lines, scan_step, scan_from, begun_step, e
 use Rattle.ojp_http.specs.Heads.{is_empty_line}
 use Rattle.ojp_http.specs.Bodies.{has_no_feed}
 use Rattle.ojp_http.proofs.Scans.{begun_of, begun_of-push, scan_from-append}
+use Rattle.ojp_http.proofs.Tests.{and_cases, not_true}
 
 -- the carriage return of a line end, which stands in the line
 abbrev pub return_of : LineEnd → List ℕ
@@ -39,14 +40,6 @@ pub record Heading (least : ℕ) (text : List ℕ) : Type 0 where
   pub filled : AreLines lines
   pub enough : least ≤ length lines
 
-first_and : (a b : Bool) → (a && b) ≡ true → (a ≡ true) × (b ≡ true)
-first_and true b e = (refl, e)
-first_and false b e = absurd (cc)
-
-is_not : (b : Bool) → not b ≡ true → b ≡ false
-is_not true e = absurd (cc)
-is_not false e = refl
-
 -- a line that is not empty is neither nothing nor a carriage return
 begun_filled : (line : List ℕ) → is_empty_line line ≡ false → begun_of line ≡ Other
 begun_filled [] h = absurd (cc)
@@ -62,10 +55,10 @@ line_scan : (line begun : List ℕ) (n : ℕ) (e : Bool) → has_no_feed line �
     → scan_from (record { begun = begun_of begun; counted = n; has_empty = e }) line ≡ record { begun = begun_of (begun ++ line); counted = n; has_empty = e }
 line_scan [] begun n e h = ap (λ (l : List ℕ). record { begun = begun_of l; counted = n; has_empty = e }) (sym (append-nil begun))
 line_scan (b ∷ line) begun n e h =
-    let two = first_and (not (b == 10)) (has_no_feed line) h in
+    let two = and_cases (not (b == 10)) (has_no_feed line) h in
     let start : Scan = record { begun = begun_of begun; counted = n; has_empty = e } in
     let plain : Scan = record { begun = begun_step (begun_of begun) b; counted = n; has_empty = e } in
-    let stepped : scan_step start b ≡ plain = ap (λ (t : Bool). if t then scan_end start else plain) (is_not (b == 10) two.0) in
+    let stepped : scan_step start b ≡ plain = ap (λ (t : Bool). if t then scan_end start else plain) (not_true (b == 10) two.0) in
     let more : plain ≡ record { begun = begun_of (begun ++ b ∷ []); counted = n; has_empty = e } =
     ap (λ (v : Begun). record { begun = v; counted = n; has_empty = e }) (begun_of-push begun b) in
     ap (λ (s : Scan). scan_from s line) (stepped ∙ more)

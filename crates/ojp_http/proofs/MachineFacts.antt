@@ -17,7 +17,7 @@ use Rattle.ojp_http.specs.Bodies.{Ends, Takes, EndsChunk, Chunks, Trailer, Sized
 use Rattle.ojp_http.specs.Machine.{content_left, chunk_left, chunk_start, ReadsAt, IsOpenAt, work_at, room_at, SpendsBy, FrameSpends, SizedSpends, IsCountedBy, IsBounded, FollowsFrame, Begins, IsNewRequest, IsNewReply}
 use Rattle.ojp_http.specs.Scanned.{no_lines, scan_from}
 use Rattle.ojp_http.specs.declared.scan.Scan.{Scan}
-use Rattle.ojp_http.proofs.Headed.{Grammar}
+use Rattle.ojp_http.proofs.Headed.{Grammar, no_end}
 use Rattle.ojp_http.proofs.Grammars.{trailers, requests, responses}
 use Rattle.ojp_http.proofs.Lines.{heading_ends_in}
 use Rattle.std.specs.Prelude.{codes}
@@ -33,10 +33,6 @@ after-nil (cut body) = refl
 
 -- ---- before the first byte
 
-nothing_ends : (a : List ℕ) (x : ℕ) → [] ≡ a ++ x ∷ [] → ⊥
-nothing_ends [] x e = cc
-nothing_ends (y ∷ a) x e = cc
-
 front_nil : (a b : List ℕ) → [] ≡ a ++ b → a ≡ []
 front_nil [] b e = refl
 front_nil (x ∷ a) b e = absurd (cc)
@@ -45,7 +41,7 @@ pub no_head_nil : {H : Type 0} (Reads : List ℕ → H → List ℕ → Type 0) 
 no_head_nil Reads fields most extra grammar h rest x =
     let none : x.front ≡ [] = front_nil x.front rest x.is in
     let fed = heading_ends_in (length (fields h) + extra) x.front (grammar.heading x.front h x.reads) in
-    nothing_ends fed.0 10 (sym none ∙ fed.1)
+    no_end fed.0 10 (sym none ∙ fed.1)
 
 pub not_full_nil : (most : ℕ) → 0 < most → ¬ (IsFull most [])
 not_full_nil most pos full =

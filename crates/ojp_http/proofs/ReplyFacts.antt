@@ -5,8 +5,7 @@ use Rattle.ojp_http.specs.declared.fed.ReplyFed.{ReplyFed}
 use Rattle.ojp_http.specs.declared.fed.ReplyFed.TheVariants as fed
 use Rattle.ojp_http.specs.declared.fed.ReplyRefused.{ReplyRefused}
 use Rattle.ojp_http.specs.declared.fed.ReplyRefused.TheVariants as refused_as
-use Rattle.ojp_http.specs.declared.fed.Stage.{Stage}
-use Rattle.ojp_http.specs.declared.fed.Stage.TheVariants.{Reading, Whole, Over}
+use Rattle.ojp_http.specs.declared.fed.Stage.TheVariants.{Whole, Over}
 use Rattle.ojp_http.specs.declared.machine.Place.{Place}
 use Rattle.ojp_http.specs.declared.machine.Place.TheVariants as places
 use Rattle.ojp_http.specs.declared.machine.Framing.{Framing}
@@ -16,21 +15,14 @@ use Rattle.ojp_http.specs.Verdicts.{Verdict, whole, refused, after}
 use Rattle.ojp_http.specs.Bodies.{Replies}
 use Rattle.ojp_http.specs.Asking.{HttpReply}
 use Rattle.ojp_http.specs.Machine.{ReadsAt, Reads, IsOpenAt, IsNewReply, Took, Feeds, is_whole_at}
-use Rattle.ojp_http.specs.Replying.{ReplyView, HasTaken, HasFed, ReadsOn, Answers, BeginsNoReply, refusal_at}
+use Rattle.ojp_http.specs.Replying.{ReplyView, HasTaken, HasFed, ReadsOn, Answers, BeginsNoReply, ended, framed, refusal_at}
 use Rattle.ojp_http.specs.declared.refusal.Refusal.{Refusal}
 use Rattle.ojp_http.proofs.WholeMessages.{replies_only, beginning_law}
 use Rattle.ojp_http.proofs.MachineFacts.{after-nil}
 use Rattle.ojp_http.proofs.Stepping.{after-append}
 use Rattle.ojp_http.proofs.Feeding.{whole_place}
 use Rattle.ojp_http.proofs.Opened.{open_cut, open_goes_on}
-
-take_all : (l : List ℕ) → take (length l) l ≡ l
-take_all [] = refl
-take_all (x ∷ l) = ap (λ (r : List ℕ). x ∷ r) (take_all l)
-
--- a reply at this stage, over this framing
-abbrev pub view_of : Stage → Framing → ReplyView
-view_of s f = record { stage = s; place = f.place; room = f.room; kept = f.kept.items; scan = f.scan }
+use Rattle.ojp_http.proofs.Requesting.{take_length}
 
 not_whole : (p : Place) → p ≢ places.Whole → is_whole_at p ≡ false
 not_whole places.Head n = refl
@@ -42,7 +34,7 @@ not_whole (places.Return has_return) n = refl
 not_whole places.Trailing n = refl
 not_whole places.Whole n = absurd (n refl)
 
-pub taken_none : (f : Framing) → IsNewReply f → HasTaken (view_of Reading f) [] []
+pub taken_none : (f : Framing) → IsNewReply f → HasTaken (framed f) [] []
 taken_none f n = record {
   reads = λ rest v x. subst (λ (w : Verdict). Replies rest w) (sym (after-nil v)) (n.reads rest v x);
   ready = n.ready;
@@ -69,15 +61,14 @@ not_nil : (piece : List ℕ) → (length piece == 0) ≡ false → piece ≢ []
 not_nil piece some e = let x : true ≡ false = ap (λ (l : List ℕ). length l == 0) (sym e) ∙ some in cc
 
 -- a piece behind a whole reply
-pub feeds_behind : (f : Framing) (old : ReplyView) (bytes got piece before : List ℕ) → old ≡ view_of Whole f → (length piece == 0) ≡ false
-    → HasFed old bytes got → Answers old (view_of (Over refused_as.Bad) f) bytes got piece before before (Err refused_as.Bad)
-feeds_behind f old bytes got piece before is some h =
-    subst (λ (o : ReplyView). HasFed o bytes got → Answers o (view_of (Over refused_as.Bad) f) bytes got piece before before (Err refused_as.Bad)) (sym is)
-    (λ x. ((refl, not_nil piece some, refl, begins_longer bytes got piece x (not_nil piece some)), refl)) h
+pub feeds_behind : (bytes got piece before : List ℕ) → (length piece == 0) ≡ false
+    → HttpReply bytes got → Answers (ended Whole) (ended (Over refused_as.Bad)) bytes got piece before before (Err refused_as.Bad)
+feeds_behind bytes got piece before some x =
+    ((refl, not_nil piece some, refl, begins_longer bytes got piece x (not_nil piece some)), refl)
 
 module _ (f g : Framing) (bytes got piece items out : List ℕ) where
-  whole_core : (used : ℕ) → HasTaken (view_of Reading f) bytes got → Took f g piece items out used → is_whole_at g.place ≡ true
-      → ReadsOn (view_of Whole g) bytes got piece items out (Ok (fed.Whole used))
+  whole_core : (used : ℕ) → HasTaken (framed f) bytes got → Took f g piece items out used → is_whole_at g.place ≡ true
+      → ReadsOn (ended Whole) bytes got piece items out (Ok (fed.Whole used))
   whole_core used h t w =
       let gained = t.goes.gained in
       let here : Reads g [] (whole [] []) = subst (λ (p : Place). ReadsAt p g.room g.kept.items [] (whole [] [])) (sym (whole_place g.place w)) refl in
@@ -92,12 +83,12 @@ module _ (f g : Framing) (bytes got piece items out : List ℕ) where
         refl,
       )
 
-  more_core : (used : ℕ) → HasTaken (view_of Reading f) bytes got → Took f g piece items out used → is_whole_at g.place ≡ false
-      → ReadsOn (view_of Reading g) bytes got piece items out (Ok fed.More)
+  more_core : (used : ℕ) → HasTaken (framed f) bytes got → Took f g piece items out used → is_whole_at g.place ≡ false
+      → ReadsOn (framed g) bytes got piece items out (Ok fed.More)
   more_core used h t n =
       let gained = t.goes.gained in
       let all : used ≡ length piece = t.all (λ w. let e : true ≡ false = ap is_whole_at (sym w) ∙ n in cc) in
-      let some : HasTaken (view_of Reading g) (bytes ++ take used piece) (got ++ gained) = record {
+      let some : HasTaken (framed g) (bytes ++ take used piece) (got ++ gained) = record {
         reads = λ rest v x.
             subst (λ (l : List ℕ). Replies l (after (got ++ gained) v)) (sym (append_assoc bytes (take used piece) rest))
             (subst (λ (w : Verdict). Replies (bytes ++ (take used piece ++ rest)) w) (after-append got gained v)
@@ -105,10 +96,10 @@ module _ (f g : Framing) (bytes got piece items out : List ℕ) where
         ready = t.goes.moves.ready;
         unfinished = n;
       } in
-      let taken : HasTaken (view_of Reading g) (bytes ++ take (length piece) piece) (got ++ gained) =
-      subst (λ (k : ℕ). HasTaken (view_of Reading g) (bytes ++ take k piece) (got ++ gained)) all some in
-      let fed : HasFed (view_of Reading g) (bytes ++ piece) (got ++ gained) =
-      subst (λ (l : List ℕ). HasTaken (view_of Reading g) (bytes ++ l) (got ++ gained)) (take_all piece) taken in
+      let taken : HasTaken (framed g) (bytes ++ take (length piece) piece) (got ++ gained) =
+      subst (λ (k : ℕ). HasTaken (framed g) (bytes ++ take k piece) (got ++ gained)) all some in
+      let fed : HasFed (framed g) (bytes ++ piece) (got ++ gained) =
+      subst (λ (l : List ℕ). HasTaken (framed g) (bytes ++ l) (got ++ gained)) (take_length piece) taken in
       record {
         grows = record {
           within = subst (λ (k : ℕ). k ≤ length piece) all t.goes.within;
@@ -118,38 +109,34 @@ module _ (f g : Framing) (bytes got piece items out : List ℕ) where
         };
         reads = refl;
         stays_open = record {
-          is_cut = open_cut (view_of Reading g) (bytes ++ piece) (got ++ gained) refl fed;
-          begins = λ more body x. open_goes_on (view_of Reading g) (bytes ++ piece) (got ++ gained) more body refl fed x;
+          is_cut = open_cut (framed g) (bytes ++ piece) (got ++ gained) refl fed;
+          begins = λ more body x. open_goes_on (framed g) (bytes ++ piece) (got ++ gained) more body refl fed x;
         };
       }
 
-  stop_core : (stop : Stop) → HasTaken (view_of Reading f) bytes got → Feeds f piece items (Err stop) g out
-      → ReadsOn (view_of (Over (refusal_at stop)) g) bytes got piece items out (Err (refusal_at stop))
+  stop_core : (stop : Stop) → HasTaken (framed f) bytes got → Feeds f piece items (Err stop) g out
+      → ReadsOn (ended (Over (refusal_at stop))) bytes got piece items out (Err (refusal_at stop))
   stop_core (Refused e) h s =
       let decided : (rest : List ℕ) → Replies ((bytes ++ piece) ++ rest) (refused e) =
       λ rest. subst (λ (l : List ℕ). Replies l (refused e)) (sym (append_assoc bytes piece rest)) (h.reads (piece ++ rest) (refused e) (s.0 rest)) in
       record { over = refl; decided = λ bad. record { refusal = e; none = begins_none (bytes ++ piece) e decided; decided = decided }; gains = s.1 }
   stop_core NoMemory h s = record { over = refl; decided = λ bad. absurd (cc); gains = s }
 
-  module _ (old : ReplyView) (before end : List ℕ) where
-    place_in : (new : ReplyView) (r : Result ReplyFed ReplyRefused) → old ≡ view_of Reading f → before ≡ items → end ≡ out
-        → (HasTaken (view_of Reading f) bytes got → ReadsOn new bytes got piece items out r) → HasFed old bytes got → Answers old new bytes got piece before end r
-    place_in new r e b a core h =
-        subst (λ (o : ReplyView). HasFed o bytes got → Answers o new bytes got piece before end r) (sym e)
-        (λ x. subst (λ (l : List ℕ). ReadsOn new bytes got piece l end r) (sym b) (subst (λ (l : List ℕ). ReadsOn new bytes got piece items l r) (sym a) (core x))) h
+  module _ (before end : List ℕ) (b : before ≡ items) (a : end ≡ out) where
+    place_in : (new : ReplyView) (r : Result ReplyFed ReplyRefused) → ReadsOn new bytes got piece items out r → ReadsOn new bytes got piece before end r
+    place_in new r reads =
+        subst (λ (l : List ℕ). ReadsOn new bytes got piece l end r) (sym b) (subst (λ (l : List ℕ). ReadsOn new bytes got piece items l r) (sym a) reads)
 
-    pub feeds_whole : (used : ℕ) → old ≡ view_of Reading f → before ≡ items → end ≡ out → Took f g piece items out used → is_whole_at g.place ≡ true
-        → HasFed old bytes got → Answers old (view_of Whole g) bytes got piece before end (Ok (fed.Whole used))
-    feeds_whole used e b a t w h = place_in (view_of Whole g) (Ok (fed.Whole used)) e b a (λ x. whole_core used x t w) h
+    pub reads_whole : (used : ℕ) → Took f g piece items out used → is_whole_at g.place ≡ true
+        → HasTaken (framed f) bytes got → ReadsOn (ended Whole) bytes got piece before end (Ok (fed.Whole used))
+    reads_whole used t w x = place_in (ended Whole) (Ok (fed.Whole used)) (whole_core used x t w)
 
-    pub feeds_more : (s : Stage) → s ≡ Reading → (used : ℕ) → old ≡ view_of Reading f → before ≡ items → end ≡ out → Took f g piece items out used → is_whole_at g.place ≡ false
-        → HasFed old bytes got → Answers old (view_of s g) bytes got piece before end (Ok fed.More)
-    feeds_more s is used e b a t n h =
-        subst (λ (q : Stage). Answers old (view_of q g) bytes got piece before end (Ok fed.More)) (sym is)
-        (place_in (view_of Reading g) (Ok fed.More) e b a (λ x. more_core used x t n) h)
+    pub reads_more : (used : ℕ) → Took f g piece items out used → is_whole_at g.place ≡ false
+        → HasTaken (framed f) bytes got → ReadsOn (framed g) bytes got piece before end (Ok fed.More)
+    reads_more used t n x = place_in (framed g) (Ok fed.More) (more_core used x t n)
 
-    pub feeds_over : (stop : Stop) (refusal : ReplyRefused) → refusal ≡ refusal_at stop → old ≡ view_of Reading f → before ≡ items → end ≡ out → Feeds f piece items (Err stop) g out
-        → HasFed old bytes got → Answers old (view_of (Over refusal) g) bytes got piece before end (Err refusal)
-    feeds_over stop refusal is e b a s h =
-        subst (λ (q : ReplyRefused). Answers old (view_of (Over q) g) bytes got piece before end (Err q)) (sym is)
-        (place_in (view_of (Over (refusal_at stop)) g) (Err (refusal_at stop)) e b a (λ x. stop_core stop x s) h)
+    pub reads_over : (stop : Stop) (refusal : ReplyRefused) → refusal ≡ refusal_at stop → Feeds f piece items (Err stop) g out
+        → HasTaken (framed f) bytes got → ReadsOn (ended (Over refusal)) bytes got piece before end (Err refusal)
+    reads_over stop refusal is s x =
+        subst (λ (q : ReplyRefused). ReadsOn (ended (Over q)) bytes got piece before end (Err q)) (sym is)
+        (place_in (ended (Over (refusal_at stop))) (Err (refusal_at stop)) (stop_core stop x s))

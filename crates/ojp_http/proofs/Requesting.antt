@@ -42,7 +42,7 @@ HasRead-start old f body count n r p b = record {
   at_rest = refl;
 }
 
-take_length : (l : List ℕ) → take (length l) l ≡ l
+pub take_length : (l : List ℕ) → take (length l) l ≡ l
 take_length [] = refl
 take_length (x ∷ l) = ap (λ (r : List ℕ). x ∷ r) (take_length l)
 

@@ -9,6 +9,7 @@ use Rattle.ojp_http.specs.declared.scan.Begun.TheVariants.{Nothing, Return, Othe
 use Rattle.ojp_http.specs.declared.scan.Scan.{Scan}
 use Rattle.ojp_http.specs.Scanned.{no_lines, begun_step, end_by, scan_end, scan_step, scan_from}
 use Rattle.ojp_http.specs.Heads.{lines_after, is_empty_line, without_front}
+use Rattle.ojp_http.proofs.Tests.{and_false, bool_cases}
 
 pub scan_from-append : (s : Scan) (a b : List ℕ) → scan_from s (a ++ b) ≡ scan_from (scan_from s a) b
 scan_from-append s [] b = refl
@@ -36,10 +37,6 @@ without_front-push (k ∷ done) line =
       | true ↦ without_front-push done line
       | false ↦ refl
     ]
-
-and-false : (b : Bool) → (b && false) ≡ false
-and-false true = refl
-and-false false = refl
 
 and-true : (b : Bool) → (b && true) ≡ b
 and-true true = refl
@@ -77,7 +74,7 @@ ends_empty b which (k ∷ counted) line empty =
     let first : Scan = record { begun = Nothing; counted = 0; has_empty = not (are_filled (k ∷ counted)) } in
     let chosen : (if suc (length counted) == 0 then first else more) ≡ more = ap (λ t. if t then first else more) (eqb-suc-zero (length counted)) in
     let last : more ≡ count_of (pushed (k ∷ counted) line) =
-    (λ i. record { begun = Nothing; counted = length (k ∷ counted) + 1; has_empty = not ((sym (and-false (are_filled (k ∷ counted)))) i) })
+    (λ i. record { begun = Nothing; counted = length (k ∷ counted) + 1; has_empty = not ((sym (and_false (are_filled (k ∷ counted)))) i) })
     ∙ count_of-push k counted line true empty in
     by_which b which P (chosen ∙ last) (chosen ∙ last)
 
@@ -90,10 +87,6 @@ ends_filled [] line filled =
 ends_filled (k ∷ counted) line filled =
     (λ i. record { begun = Nothing; counted = length (k ∷ counted) + 1; has_empty = not ((sym (and-true (are_filled (k ∷ counted)))) i) })
     ∙ count_of-push k counted line false filled
-
-bool_cases : (b : Bool) → (b ≡ true) ⊎ (b ≡ false)
-bool_cases true = inl refl
-bool_cases false = inr refl
 
 -- a line ends
 pub ends : (counted : List (List ℕ)) (line : List ℕ) → end_by (begun_of line) (length counted) (not (are_filled counted)) ≡ count_of (pushed counted line)

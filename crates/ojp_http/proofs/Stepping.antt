@@ -1,5 +1,5 @@
 -- One byte more: what each outcome says of all the bytes.
-use Rattle.std.proofs.Common.{◌≡◌, ℕ, ◌+◌, ◌-◌, ◌^◌, ◌≤◌, ◌<◌, true, false, List, [], ◌∷◌, ◌++◌, length, take, drop, get_or, refl, sym, ap, ◌∙◌, arith, append_assoc, append-nil, subst, length-append, suc, Option, Some, None, Result, Ok, Err, not, ◌&&◌, inl, inr, ◌⊎◌}
+use Rattle.std.proofs.Common.{◌≡◌, ℕ, ◌+◌, ◌-◌, ◌^◌, ◌≤◌, ◌<◌, true, false, List, [], ◌∷◌, ◌++◌, length, take, drop, get_or, refl, sym, ap, ◌∙◌, arith, append_assoc, append-nil, subst, length-append, suc, Option, Some, None, Result, Ok, Err, not, ◌&&◌, inl, inr}
 use Rattle.std.specs.Prelude.{◌==◌, ◌≢◌}
 use Rattle.httparse.specs.Grammar.{Field, RequestHead, ReadsRequest, ResponseHead, ReadsResponse, LineEnd, ChunkLine, ReadsChunkLine, print_chunk_line, chunk_size}
 use Rattle.ojp_http.specs.declared.refusal.Refusal.{Refusal}
@@ -13,7 +13,7 @@ use Rattle.ojp_http.specs.declared.machine.Stop.TheVariants.{Refused, NoMemory}
 use Rattle.std.proofs.lemmas.Bool.Decides.{nat_tests}
 use Rattle.std.proofs.lemmas.List.Folds.{list_all-append}
 use Rattle.ojp_http.specs.Verdicts.{Verdict, whole, refused, cut, after}
-use Rattle.ojp_http.specs.Heads.{HasHead, HasNoHead, IsFull, IsFullAt, Begins, IsMalformed, found, malformed, full}
+use Rattle.ojp_http.specs.Heads.{HasHead, HasNoHead, IsFullAt, Begins, found, malformed, full}
 use Rattle.ojp_http.specs.Bodies.{Ends, Takes, taken as takes_all, short as takes_short, EndsChunk, ended as chunk_ended, begun as chunk_begun, other as chunk_other, Chunks, Trailer, ReadsTrailer, Sized, last as size_last, chunk as size_chunk, over as size_over, room_after, Frames, has_no_feed, Asks, Replies, ReadsLine, ReadsLines}
 use Rattle.ojp_http.specs.Fields.{ask_frame, reply_frame}
 use Rattle.ojp_http.specs.Machine.{ReadsAt, Reads, IsOpenAt, IsOpen, work_at, room_at, SpendsBy, Spends, limit_at, IsCounted, FrameSpends, SizedSpends, Follows, Enters, Moves, StepsBy, Steps, Advances, content_left, chunk_left, one_of}

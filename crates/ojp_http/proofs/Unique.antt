@@ -1,5 +1,5 @@
 -- Two verdicts of the same bytes are one, but where a head or a trailer is malformed.
-use Rattle.std.proofs.Common.{◌≡◌, ℕ, ◌≤◌, ◌<◌, ◌⊎◌, Bool, true, false, not, ◌&&◌, List, [], ◌∷◌, ◌++◌, length, refl, sym, ap, ◌∙◌, arith, append_assoc, append-nil, subst, inl, inr, length-append, suc, zero, Option, Some, None}
+use Rattle.std.proofs.Common.{◌≡◌, ℕ, ◌≤◌, ◌<◌, ◌⊎◌, true, false, not, ◌&&◌, List, [], ◌∷◌, ◌++◌, length, refl, sym, ap, ◌∙◌, arith, append_assoc, append-nil, subst, inl, inr, length-append, suc, zero, Option, Some, None}
 use Rattle.std.specs.Prelude.{◌==◌}
 use Rattle.std.specs.Char.{is_ascii_hexdigit}
 use Rattle.std.proofs.lemmas.List.{nil_from_length}
@@ -19,6 +19,7 @@ use Rattle.ojp_http.proofs.Grammars.{trailers, no_feed, no_feed_append}
 use Rattle.ojp_http.proofs.ChunkFacts.{line_feeds}
 use Rattle.ojp_http.proofs.MachineFacts.{after-nil}
 use Rattle.ojp_http.specs.Laws.{HasBadTrailer, AreTwo}
+use Rattle.ojp_http.proofs.Tests.{and_false}
 
 -- two verdicts of the same bytes: one, or the two that a malformed trailer allows
 abbrev pub Differ : (List ℕ → Verdict → Type 0) → List ℕ → Verdict → Verdict → Type 0
@@ -47,7 +48,7 @@ lift K M f g make bytes r v w x y is vx wy (inr d) = inr (
 
 -- ---- parts by their length
 
-same_split : (a b c d : List ℕ) → a ++ b ≡ c ++ d → length a ≡ length c → (a ≡ c) × (b ≡ d)
+pub same_split : (a b c d : List ℕ) → a ++ b ≡ c ++ d → length a ≡ length c → (a ≡ c) × (b ≡ d)
 same_split a b c d e l =
     elim (two_fronts a b c d e) [
       | inl m ↦
@@ -110,14 +111,10 @@ line_plain l x =
           refl,
     )
 
-and_no : (b : Bool) → (b && false) ≡ false
-and_no true = refl
-and_no false = refl
-
 feeds : (front more : List ℕ) → has_no_feed ((front ++ 10 ∷ []) ++ more) ≡ true → ⊥
 feeds front more h =
     let x : has_no_feed ((front ++ 10 ∷ []) ++ more) ≡ false =
-    list_all-append (λ n. not (n == 10)) (front ++ 10 ∷ []) more ∙ (λ i. (list_all-append (λ n. not (n == 10)) front (10 ∷ []) ∙ and_no (has_no_feed front)) i && has_no_feed more) in
+    list_all-append (λ n. not (n == 10)) (front ++ 10 ∷ []) more ∙ (λ i. (list_all-append (λ n. not (n == 10)) front (10 ∷ []) ∙ and_false (has_no_feed front)) i && has_no_feed more) in
     cc
 
 -- a line that is no chunk line does not begin with one

@@ -30,10 +30,10 @@ replies_pair : (bytes : List ℕ) (v w : Verdict) → Replies bytes v → Replie
 replies_pair bytes v w x y =
     pairs ReadsResponse (λ (h : ResponseHead). h.fields) 66 refusals.Head refusals.TooLargeHead (λ h. Frames None (reply_frame h)) 1 responses response_unique bytes v w x y
 
-not_refused : {body rest : List ℕ} {e : Refusal} → whole body rest ≡ refused e → ⊥
+pub not_refused : {body rest : List ℕ} {e : Refusal} → whole body rest ≡ refused e → ⊥
 not_refused q = cc
 
-not_cut : {body rest got : List ℕ} → whole body rest ≡ cut got → ⊥
+pub not_cut : {body rest got : List ℕ} → whole body rest ≡ cut got → ⊥
 not_cut q = cc
 
 not_double : {body rest got : List ℕ} {e : Refusal} {v : Verdict} → AreTwo (refused e) (cut got) (whole body rest) v → ⊥
@@ -103,7 +103,7 @@ outcome_law bytes x y a b = asked_outcome bytes x y a.verdict b.verdict a.tells 
 abbrev pub Extends : (List ℕ → Verdict → Type 0) → Type 0
 Extends K = (bytes more body rest : List ℕ) → K bytes (whole body rest) → K (bytes ++ more) (whole body (rest ++ more))
 
-behind : (bytes front rest more : List ℕ) → bytes ≡ front ++ rest → bytes ++ more ≡ front ++ (rest ++ more)
+pub behind : (bytes front rest more : List ℕ) → bytes ≡ front ++ rest → bytes ++ more ≡ front ++ (rest ++ more)
 behind bytes front rest more is = ap (λ (l : List ℕ). l ++ more) is ∙ append_assoc front rest more
 
 ends_extend : Extends Ends
@@ -112,7 +112,7 @@ ends_extend bytes more body rest x =
     let r : rest ≡ bytes = cc in
     λ i. whole (b i) (r i ++ more)
 
-after_whole : (front : List ℕ) (w : Verdict) (body rest : List ℕ) → whole body rest ≡ after front w → (b : List ℕ) × (w ≡ whole b rest) × (body ≡ front ++ b)
+pub after_whole : (front : List ℕ) (w : Verdict) (body rest : List ℕ) → whole body rest ≡ after front w → (b : List ℕ) × (w ≡ whole b rest) × (body ≡ front ++ b)
 after_whole front (whole b r) body rest e = let x : rest ≡ r = cc in let y : body ≡ front ++ b = cc in (b, ap (whole b) (sym x), y)
 after_whole front (refused q) body rest e = absurd (cc)
 after_whole front (cut b) body rest e = absurd (cc)

@@ -1,5 +1,5 @@
 -- A reply in pieces, as it is seen from outside.
-use Rattle.std.specs.Prelude.{◌≡◌, ◌≢◌, ℕ, ◌≤◌, false, List, [], ◌++◌, length, take, Option, Result, Ok, Err}
+use Rattle.std.specs.Prelude.{◌≡◌, ◌≢◌, ℕ, ◌≤◌, false, List, [], ◌++◌, length, take, Option, None, Result, Ok, Err}
 use Rattle.ojp_http.specs.declared.refusal.Refusal.{Refusal}
 use Rattle.ojp_http.specs.declared.fed.ReplyFed.{ReplyFed}
 use Rattle.ojp_http.specs.declared.fed.ReplyFed.TheVariants as fed
@@ -7,14 +7,19 @@ use Rattle.ojp_http.specs.declared.fed.ReplyRefused.{ReplyRefused}
 use Rattle.ojp_http.specs.declared.fed.ReplyRefused.TheVariants as refused_as
 use Rattle.ojp_http.specs.declared.fed.Stage.{Stage}
 use Rattle.ojp_http.specs.declared.fed.Stage.TheVariants.{Reading, Whole, Over}
+use Rattle.ojp_http.specs.declared.reply.State.{State}
+use Rattle.ojp_http.specs.declared.reply.State.TheVariants as states
+use Rattle.ojp_http.specs.declared.machine.Framing.{Framing}
 use Rattle.ojp_http.specs.declared.machine.Place.{Place}
+use Rattle.ojp_http.specs.declared.machine.Place.TheVariants as places
 use Rattle.ojp_http.specs.declared.machine.Stop.{Stop}
 use Rattle.ojp_http.specs.declared.machine.Stop.TheVariants.{Refused, NoMemory}
 use Rattle.ojp_http.specs.declared.scan.Scan.{Scan}
 use Rattle.ojp_http.specs.Verdicts.{Verdict, refused, cut, after}
 use Rattle.ojp_http.specs.Bodies.{Replies}
 use Rattle.ojp_http.specs.Asking.{HttpReply}
-use Rattle.ojp_http.specs.Machine.{ReadsAt, IsOpenAt, is_whole_at, Gains}
+use Rattle.ojp_http.specs.Machine.{ReadsAt, IsOpenAt, IsOpen, is_whole_at, Gains}
+use Rattle.ojp_http.specs.Scanned.{no_lines}
 
 -- a reply that is read: its stage, and where its framing stands
 pub record ReplyView : Type 0 where
@@ -23,6 +28,20 @@ pub record ReplyView : Type 0 where
   pub room : Option ℕ
   pub kept : List ℕ
   pub scan : Scan
+
+-- a reply that is framed, as it is seen
+abbrev pub framed : Framing → ReplyView
+framed f = record { stage = Reading; place = f.place; room = f.room; kept = f.kept.items; scan = f.scan }
+
+-- a reply of which no more is read, as it is seen
+abbrev pub ended : Stage → ReplyView
+ended stage = record { stage = stage; place = places.Whole; room = None; kept = []; scan = no_lines }
+
+-- a reply, as it is seen
+abbrev pub seen_as : State → ReplyView
+seen_as (states.Reading f) = framed f
+seen_as states.Whole = ended Whole
+seen_as (states.Over e) = ended (Over e)
 
 -- these bytes were taken, and these of the body gained: however the rest reads, it read so
 pub record HasTaken (r : ReplyView) (bytes got : List ℕ) : Type 0 where
@@ -40,10 +59,10 @@ abbrev pub HasFed : ReplyView → List ℕ → List ℕ → Type 0
 HasFed r bytes got = HasFedAt r.stage r bytes got
 
 -- the machine is in order while it reads
-abbrev pub IsSoundAt : Stage → Place → List ℕ → Scan → Type 0
-IsSoundAt Reading place kept scan = IsOpenAt place kept scan × (is_whole_at place ≡ false)
-IsSoundAt Whole place kept scan = Unit {0}
-IsSoundAt (Over e) place kept scan = Unit {0}
+abbrev pub IsSoundIn : State → Type 0
+IsSoundIn (states.Reading f) = IsOpen f × (is_whole_at f.place ≡ false)
+IsSoundIn states.Whole = Unit {0}
+IsSoundIn (states.Over e) = Unit {0}
 
 -- no reply begins with these bytes
 abbrev pub BeginsNoReply : List ℕ → Type 0

@@ -1,7 +1,6 @@
 -- The fields of one name, as one pass counts them.
 use Rattle.std.specs.Prelude.{◌≡◌, ℕ, ◌+◌, ◌==◌, ◌&&◌, if◌then◌else◌, List, length, map}
 use Rattle.httparse.specs.declared.spans.HeaderSpan.{HeaderSpan}
-use Rattle.httparse.specs.declared.spans.Span.{Span}
 use Rattle.httparse.specs.Spans.{IsWithin, header_bytes, span_bytes}
 use Rattle.ojp_http.specs.declared.fields.Named.{Named}
 use Rattle.ojp_http.specs.Fields.{is_same, count_named, value_named}

@@ -20,6 +20,3 @@ pub use fed::{ReplyFed, ReplyRefused};
 pub use refusal::HttpRefusal;
 pub use reply::Reply;
 pub use served::{Served, give_up, refuse, respond};
-
-#[cfg(test)]
-mod tests;

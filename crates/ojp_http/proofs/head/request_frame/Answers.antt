@@ -1,10 +1,9 @@
-use Rattle.std.proofs.Common.{◌≡◌, Ok, Some, None, Err, sym, ap, ◌∙◌, arith, subst}
+use Rattle.std.proofs.Common.{◌≡◌, Ok, Some, None, Err, sym, ◌∙◌, arith, subst}
 use Rattle.httparse.specs.Grammar.{ReadsRequest, RequestHead}
-use Rattle.httparse.specs.declared.Status.TheVariants.{Complete}
 use Rattle.ojp_http.specs.declared.refusal.Refusal.TheVariants.{Head, TooLargeHead}
 use Rattle.ojp_http.specs.Fields.{ask_frame, ask_by}
 use Rattle.ojp_http.specs.Outcomes.{decided_by}
-use Rattle.ojp_http.proofs.Full.{not_true}
+use Rattle.ojp_http.proofs.Tests.{not_true}
 use Rattle.ojp_http.proofs.Headed.{unparsed, too_many, decides_found, decides_rest, found_by, DecidesRest}
 use Rattle.ojp_http.proofs.Grammars.{requests, few_fields}
 use Rattle.ojp_http.proofs.head.request_frame.Goals as goal

@@ -1,6 +1,5 @@
-use Rattle.std.proofs.Common.{◌≡◌, List, ℕ, Ok, Some, None, Err, refl, sym, ap, ◌∙◌, arith, subst}
+use Rattle.std.proofs.Common.{◌≡◌, Ok, Some, None, Err, refl, sym, ◌∙◌, arith, subst}
 use Rattle.httparse.specs.Grammar.{lf}
-use Rattle.httparse.specs.declared.Status.TheVariants.{Complete}
 use Rattle.ojp_http.specs.declared.refusal.Refusal.TheVariants.{Chunk}
 use Rattle.ojp_http.specs.Bodies.{ReadsTrailer}
 use Rattle.ojp_http.specs.Outcomes.{decided_by}
