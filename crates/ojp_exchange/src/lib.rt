@@ -16,6 +16,3 @@ pub use points::points_of;
 pub use refusals::BookRefused;
 pub use region_points::RegionPoints;
 pub use spots::{Edge, Link, Pair, Spot};
-
-#[cfg(test)]
-mod tests;

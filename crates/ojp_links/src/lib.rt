@@ -9,6 +9,3 @@ mod links;
 pub use expect::Expect;
 pub use fitting::fits;
 pub use links::{AskRefused, Links, More, PacedLinks, Runtime, Sub, WaitLinks};
-
-#[cfg(test)]
-mod tests;

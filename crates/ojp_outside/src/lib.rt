@@ -38,6 +38,3 @@ pub use std_sink::StdSink;
 pub use std_source::StdSource;
 pub use store::{FILE_LIMIT, Store, StoreRefused};
 pub use tcp_doors::{TcpDoors, Untold};
-
-#[cfg(test)]
-mod tests;
