@@ -1,0 +1,4 @@
+pub mod Pieces
+pub mod Hearing
+pub mod Views
+pub mod Subrequests
