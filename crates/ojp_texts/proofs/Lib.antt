@@ -1,0 +1,15 @@
+pub mod LineSteps
+pub mod NeighbourSteps
+pub mod PointsSaid
+pub mod Words
+pub mod Spelling
+pub mod Reading
+pub mod Fitting
+pub mod Steps
+pub mod PointsGrow
+pub mod PlaceRows
+pub mod JourneyRows
+pub mod SpelledText
+pub mod Told
+pub mod Spellable
+pub mod LinesSpelled

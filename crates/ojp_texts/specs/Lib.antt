@@ -1,0 +1,2 @@
+pub mod PointsSaid
+pub mod Spelled
