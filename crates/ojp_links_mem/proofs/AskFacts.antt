@@ -1,25 +1,36 @@
 -- What an ask does to what is seen of the links.
-use Rattle.std.proofs.Common.{◌≡◌, ℕ, zero, suc, ◌<◌, ◌≤◌, true, false, Bool, List, [], ◌∷◌, ◌++◌, map, length, take, Option, Some, None, Result, Ok, Err, is_some, option_map, slice_get, get_or, refl, sym, ◌∙◌, ap, subst, arith, true≢false}
+use Rattle.std.proofs.Common.{◌≡◌, ℕ, zero, suc, ◌<◌, ◌≤◌, true, false, Bool, List, [], ◌∷◌, ◌++◌, length, take, Option, Some, None, Result, Ok, Err, IfSome, is_some, option_map, slice_get, refl, sym, ◌∙◌, ap, subst, arith, true≢false}
+use Rattle.std.proofs.lemmas.Option.{none-some}
 use Rattle.slab.specs.Slab.{Slab, get}
 use Rattle.ojp_outside.specs.Causes.{next_count}
+use Rattle.ojp_values.specs.Lists.{Each}
 use Rattle.ojp_http.specs.declared.refusal.HttpRefusal.{HttpRefusal}
 use Rattle.ojp_http.specs.Serving.{RespondsWith, refusal_name, refusal_status, response}
 use Rattle.ojp_grammar.specs.Answering.{AnswersBody}
 use Rattle.ojp_timetable.specs.Tables.{Timetable}
 use Rattle.ojp_timetable.specs.Answers.{RegionAnswers}
+use Rattle.ojp_exchange.proofs.RisingFacts.{each_at}
 use Rattle.ojp_links.specs.declared.links.AskRefused.TheVariants as refused
+use Rattle.ojp_links.specs.declared.links.More.{More}
+use Rattle.ojp_links.specs.declared.links.More.TheVariants as mores
 use Rattle.ojp_links.specs.Replies.{ServesByTable}
-use Rattle.ojp_values.specs.Lists.{Each}
-use Rattle.ojp_timetable.specs.Runs.{IsWell}
-use Rattle.ojp_links.specs.Seen.{AreDistinct, Live, View, ask_at, region_of_table, rests_needed}
-use Rattle.ojp_links.specs.Calls.{Asks}
-use Rattle.ojp_links_mem.specs.Memory.{AsksBy, counts_of, fixed_by, fixed_of, links_of}
-use Rattle.ojp_links_mem.specs.Pending.{AreKept, IsKept, IsMade, live_in, live_of}
-use Rattle.ojp_links_mem.specs.Kept.{IsWhole, view_of}
+use Rattle.ojp_links.specs.Seen.{Live, View, ask_at, rests_needed}
+use Rattle.ojp_links.specs.Calls.{Asks, Keeps}
+use Rattle.ojp_links_mem.specs.Scripts.{answering, fails_later}
+use Rattle.ojp_links_mem.specs.Regions.{ChangesAt, DoesNotFall, count_at, faulted, table_at, tables_of}
+use Rattle.ojp_links_mem.specs.Memory.{AsksBy, SameTerms, links_of, said_in, table_number}
+use Rattle.ojp_links_mem.specs.Pending.{AreKept, IsKept, IsMade, IsReplyBy, IsServed, live_in, live_of}
+use Rattle.ojp_links_mem.specs.Kept.{IsNumbered, IsToldOf, IsWhole, view_of}
 use Rattle.ojp_links_mem.specs.declared.pending.Pending.{Pending}
+use Rattle.ojp_links_mem.specs.declared.regions.Region.{Region}
+use Rattle.ojp_links_mem.specs.declared.script.What.{What}
+use Rattle.ojp_links_mem.specs.declared.script.What.TheVariants.{FailAsk, FailMore, Reply}
 use Rattle.ojp_links_mem.specs.declared.memory.MemLinks.TheInside.{Inside}
-use Rattle.ojp_links_mem.proofs.LookFacts.{OthersAre, kept_with}
-use Rattle.ojp_links_mem.proofs.SoundFacts.{if_told, le_from, seen_at}
+use Rattle.ojp_links_mem.proofs.EndFacts.{same_regions}
+use Rattle.ojp_links_mem.proofs.FixedFacts.{same_fixed, whole_after}
+use Rattle.ojp_links_mem.proofs.LookFacts.{Counted, OthersAre, counted_fault, counted_none, kept_with, region_there}
+use Rattle.ojp_links_mem.proofs.RegionFacts.{table_told}
+use Rattle.ojp_links_mem.proofs.SoundFacts.{if_tables, if_told, seen_at, told_by}
 
 abbrev has_bytes : List ℕ → Bool
 has_bytes [] = false
@@ -40,18 +51,24 @@ responds_some Answers (Err e) status out h = subst (λ (bytes : List ℕ). 0 < l
 served_some : (table : Timetable) (request out : List ℕ) → ServesByTable table request out → 0 < length out
 served_some table request out h = responds_some (AnswersBody (RegionAnswers table)) h.1.outcome h.0 out h.1.responds
 
-fixed_same : (m n : Inside) → n.servers.items ≡ m.servers.items → n.order ≡ m.order → n.most ≡ m.most → fixed_of (view_of n) ≡ fixed_of (view_of m)
-fixed_same m n tables order most =
-    ap (λ (ts : List Timetable). fixed_by ts n.most n.order) tables
-    ∙ (ap (λ (k : ℕ). fixed_by m.servers.items k n.order) most ∙ ap (λ (k : ℕ). fixed_by m.servers.items m.most k) order)
+-- what an ask leaves alone, whatever it counts
+asks_keep : (m n : Inside) (at : ℕ) (answer : More) → SameTerms (view_of m) (view_of n) → Counted m n at answer → Keeps (links_of (view_of m)) (links_of (view_of n))
+asks_keep m n at answer terms counted = record { fixed = same_fixed m n terms counted.same; faults = counted.later }
 
-pub refused_at : (m n : Inside) (region : ℕ) (request : List ℕ) → n.servers.items ≡ m.servers.items → n.order ≡ m.order → n.most ≡ m.most → n.rejections.items ≡ m.rejections.items → live_in n.asks ≡ live_in m.asks
+counted_as : (m n : Inside) → n.regions.items ≡ m.regions.items → Counted m n 0 mores.Got
+counted_as m n e = counted_none m n 0 mores.Got (λ f. absurd (cc)) e
+
+pub refused_at : (m n : Inside) (region : ℕ) (request : List ℕ) → SameTerms (view_of m) (view_of n) → n.regions.items ≡ m.regions.items → live_in n.asks ≡ live_in m.asks
     → Asks (links_of (view_of m)) (links_of (view_of n)) region request (Err refused.NoMemory)
-refused_at m n region request tables order most counts live = record {
-  keeps = record { fixed = fixed_same m n tables order most; faults = λ r. le_from (get_or m.rejections.items r 0) (get_or n.rejections.items r 0) (ap (λ (xs : List ℕ). get_or xs r 0) counts) };
-  rejections = ap counts_of counts;
-  ends = live;
-}
+refused_at m n region request terms regions live =
+    let counted = counted_as m n regions in
+    record { keeps = asks_keep m n 0 mores.Got terms counted; rejections = ap count_at counted.rejections_same; ends = live }
+
+pub failed_at : (m n : Inside) (region : ℕ) (r : Region) (request : List ℕ) → SameTerms (view_of m) (view_of n) → slice_get m.regions.items region ≡ Some r → ChangesAt faulted m.regions.items n.regions.items region
+    → IfSome (slice_get m.regions.items region) DoesNotFall → n.asks ≡ m.asks → Asks (links_of (view_of m)) (links_of (view_of n)) region request (Err refused.Failed)
+failed_at m n region r request terms there h later asks =
+    let counted = counted_fault m n region r mores.Failed there h later in
+    record { keeps = asks_keep m n region mores.Failed terms counted; rejections = ap count_at counted.rejections_same; ends = (ap live_in asks, counted.rose refl) }
 
 -- the new ask, as it is seen
 record IsNewLive (to : ℕ) (bytes : List ℕ) (needed : ℕ) (ask : Live) : Type 0 where
@@ -64,8 +81,8 @@ record IsNewLive (to : ℕ) (bytes : List ℕ) (needed : ℕ) (ask : Live) : Typ
 none_of : (n : ℕ) (bytes : List ℕ) → n ≡ 0 → take n bytes ≡ []
 none_of n bytes e = ap (λ (k : ℕ). take k bytes) e
 
-is_new : (tables : List Timetable) (to : ℕ) (bytes : List ℕ) (needed : ℕ) (p : Pending) → IsMade tables to bytes needed p → IsNewLive to bytes needed (live_of p)
-is_new tables to bytes needed p made = record {
+is_new : (to : ℕ) (bytes : List ℕ) (needed : ℕ) (said : Option What) (table : Timetable) (p : Pending) → IsMade to bytes needed said table p → IsNewLive to bytes needed (live_of p)
+is_new to bytes needed said table p made = record {
   region_is = made.to_region;
   request_is = made.of_request;
   none_taken = none_of p.taken p.reply.items made.none_taken;
@@ -73,15 +90,17 @@ is_new tables to bytes needed p made = record {
   needs = made.needs;
 }
 
-pub begins_at : (m n : Inside) (region key : ℕ) (request : List ℕ) (p : Pending) → n.servers.items ≡ m.servers.items → n.order ≡ m.order → n.most ≡ m.most → n.rejections.items ≡ m.rejections.items → n.made ≡ next_count m.made
-    → get m.asks key ≡ None → get n.asks key ≡ Some p → OthersAre m.asks n.asks key → IsMade m.servers.items region request (rests_needed m.order n.made) p
+pub begins_at : (m n : Inside) (region key : ℕ) (request : List ℕ) (said : Option What) (table : Timetable) (p : Pending) → SameTerms (view_of m) (view_of n) → n.regions.items ≡ m.regions.items → n.made ≡ next_count m.made
+    → get m.asks key ≡ None → get n.asks key ≡ Some p → OthersAre m.asks n.asks key → IsMade region request (rests_needed m.order n.made) said table p
     → Asks (links_of (view_of m)) (links_of (view_of n)) region request (Ok (record { key = key }))
-begins_at m n region key request p tables order most counts made vacant is others fresh =
+begins_at m n region key request said table p terms regions made vacant is others fresh =
     let new : View = links_of (view_of n) in
-    let l : IsNewLive region request (rests_needed m.order n.made) (ask_at new key) = subst (λ (a : Live). IsNewLive region request (rests_needed m.order n.made) a) (sym (seen_at n.asks key p is)) (is_new m.servers.items region request (rests_needed m.order n.made) p fresh) in
+    let counted = counted_as m n regions in
+    let l : IsNewLive region request (rests_needed m.order n.made) (ask_at new key) =
+    subst (λ (a : Live). IsNewLive region request (rests_needed m.order n.made) a) (sym (seen_at n.asks key p is)) (is_new region request (rests_needed m.order n.made) said table p fresh) in
     record {
-      keeps = record { fixed = fixed_same m n tables order most; faults = λ r. le_from (get_or m.rejections.items r 0) (get_or n.rejections.items r 0) (ap (λ (xs : List ℕ). get_or xs r 0) counts) };
-      rejections = ap counts_of counts;
+      keeps = asks_keep m n 0 mores.Got terms counted;
+      rejections = ap count_at counted.rejections_same;
       ends = record {
         vacant = ap (option_map live_of) vacant;
         live = ap (λ (o : Option Pending). is_some (option_map live_of o)) is;
@@ -91,64 +110,133 @@ begins_at m n region key request p tables order most counts made vacant is other
         none_taken = l.none_taken;
         not_ended = l.not_ended;
         counted = made;
-        rests = if_told m.most m.order (λ by. (ask_at new key).rests ≡ rests_needed by n.made) l.needs;
+        rests = if_told m.tells_order m.order (λ by. (ask_at new key).rests ≡ rests_needed by n.made) (λ _. l.needs);
       };
     }
 
-pub asks_by : (m n : Inside) (region key : ℕ) (request : List ℕ) (p : Pending) → n.servers.items ≡ m.servers.items → n.order ≡ m.order → n.most ≡ m.most → n.rested ≡ m.rested → n.made ≡ next_count m.made
-    → get n.asks key ≡ Some p → IsMade m.servers.items region request (rests_needed m.order n.made) p → AsksBy (view_of m) (view_of n) (Ok (record { key = key }))
-asks_by m n region key request p tables order most rest made is fresh = record {
-  terms = record { tables_same = tables; order_same = order; most_same = most };
-  rests = (made, ap (λ (a : Live). a.rests) (seen_at n.asks key p is) ∙ (fresh.needs ∙ ap (λ (k : ℕ). rests_needed m.order k) made));
-  rested_same = rest;
-}
+-- ---- what answers
 
-numbered : (tables : List Timetable) (region : ℕ) → region < length tables → (table : Timetable) × (slice_get tables region ≡ Some table)
-numbered [] region below = absurd (omega (arith, below))
-numbered (t ∷ tables) zero below = (t, refl)
-numbered (t ∷ tables) (suc region) below = numbered tables region (omega (arith, below))
+-- a timetable that answers is the region's
+pub answering_some : (said : Option What) (table : Option ℕ) (number : ℕ) → answering said table ≡ Some number → table ≡ Some number
+answering_some (Some FailAsk) table number e = absurd (none-some number e)
+answering_some (Some FailMore) table number e = e
+answering_some (Some (Reply bytes)) table number e = e
+answering_some None table number e = e
+
+number_below : (count : ℕ) (r : Region) (number : ℕ) → IsNumbered count r → r.table ≡ Some number → number < count
+number_below count r number h e = subst (λ (o : Option ℕ). IfSome o (λ (k : ℕ). k < count)) e h
+
+pub answer_below : (m : Inside) (region number : ℕ) (said : Option What) → IsWhole m → region < length m.regions.items → answering said (table_number (slice_get m.regions.items region)) ≡ Some number → number < length m.servers.items
+answer_below m region number said whole below e =
+    let it = region_there m.regions.items region below in
+    let of_table : it.0.table ≡ Some number = sym (ap table_number it.1) ∙ answering_some said (table_number (slice_get m.regions.items region)) number e in
+    number_below (length m.servers.items) it.0 number (each_at (IsNumbered (length m.servers.items)) m.regions.items region it.0 whole.numbered it.1) of_table
+
+pub table_there : (tables : List Timetable) (number : ℕ) → number < length tables → (table : Timetable) × (slice_get tables number ≡ Some table)
+table_there [] number below = absurd (omega (arith, below))
+table_there (t ∷ tables) zero below = (t, refl)
+table_there (t ∷ tables) (suc number) below = table_there tables number (omega (arith, below))
+
+unsaid_reply : (said : Option What) (table : Timetable) (request out : List ℕ) → said ≡ None → IsReplyBy said table request out → ServesByTable table request out
+unsaid_reply said table request out e h = subst (λ (s : Option What). IsReplyBy s table request out) e h
 
 -- an ask that was just made is kept
-pub fresh_kept : (tables : List Timetable) (most now region : ℕ) (request : List ℕ) (needed : ℕ) (p : Pending) → region < length tables → IsMade tables region request needed p → needed ≤ now → IsKept tables most now p
-fresh_kept tables most now region request needed p below made few =
-    let it = numbered tables region below in
-    let serves : ServesByTable it.0 request p.reply.items = made.serves it.0 it.1 in
-    let some : 0 < length p.reply.items = served_some it.0 request p.reply.items serves in
+fresh_served : (m : Inside) (region number : ℕ) (request : List ℕ) (needed : ℕ) (said : Option What) (table : Timetable) (p : Pending) → IsWhole m → region < length m.regions.items
+    → answering said (table_number (slice_get m.regions.items region)) ≡ Some number → slice_get m.servers.items number ≡ Some table → IsMade region request needed said table p → said ≡ None → m.tells_servers ≡ true
+    → IsServed p (tables_of m.servers.items m.regions.items)
+fresh_served m region number request needed said table p whole below answers is made none tells =
+    let it = region_there m.regions.items region below in
+    let of_table : it.0.table ≡ Some number = sym (ap table_number it.1) ∙ answering_some said (table_number (slice_get m.regions.items region)) number answers in
+    let there : slice_get (tables_of m.servers.items m.regions.items) region ≡ Some table =
+    table_told m.servers.items m.regions.items region it.0 table whole.numbered (whole.told tells) it.1 (ap (table_at m.servers.items) of_table ∙ is) in
+    let serves : ServesByTable table request p.reply.items = unsaid_reply said table request p.reply.items none made.reply_by in
     record {
-      of_region = subst (λ (r : ℕ). r < length tables) (sym made.to_region) below;
-      within = subst (λ (n : ℕ). n ≤ length p.reply.items) (sym made.none_taken) (omega arith);
-      some = some;
-      at_end = λ e. absurd (true≢false (sym e ∙ made.not_ended));
-      at_once = λ _ h. absurd (omega (arith, h, made.none_taken));
-      few = omega (arith, made.needs, few);
+      steady = made.fails_by ∙ ap fails_later none;
+      some = served_some table request p.reply.items serves;
       serves = (
-        it.0,
-        subst (λ (r : ℕ). slice_get tables r ≡ Some it.0) (sym made.to_region) it.1,
-        subst (λ (bytes : List ℕ). ServesByTable it.0 bytes p.reply.items) (sym made.of_request) serves,
+        table,
+        subst (λ (r : ℕ). slice_get (tables_of m.servers.items m.regions.items) r ≡ Some table) (sym made.to_region) there,
+        subst (λ (bytes : List ℕ). ServesByTable table bytes p.reply.items) (sym made.of_request) serves,
       );
     }
 
-pub kept_asked : (tables : List Timetable) (most before now key : ℕ) (p : Pending) (old new : Slab Pending) → AreKept tables most before old → get new key ≡ Some p → OthersAre old new key → IsKept tables most now p → before ≤ now
-    → AreKept tables most now new
-kept_asked tables most before now key p old new kept is others fits higher =
-    kept_with tables most now old new key p
-    (λ other q at.
-    let k : IsKept tables most before q = kept other q at in
-    let few : q.rests ≤ before = k.few in
-    record { of_region = k.of_region; within = k.within; some = k.some; at_end = k.at_end; at_once = k.at_once; few = omega (arith, few, higher); serves = k.serves })
-    is
-    others
-    fits
+pub fresh_kept : (m : Inside) (region number now : ℕ) (request : List ℕ) (needed : ℕ) (said : Option What) (table : Timetable) (p : Pending) → IsWhole m → region < length m.regions.items
+    → answering said (table_number (slice_get m.regions.items region)) ≡ Some number → slice_get m.servers.items number ≡ Some table → IsMade region request needed said table p → (m.tells_servers ≡ true → said ≡ None) → needed ≤ now
+    → IsKept (length m.regions.items) (told_by m) m.most now p
+fresh_kept m region number now request needed said table p whole below answers is made unsaid few = record {
+  of_region = subst (λ (r : ℕ). r < length m.regions.items) (sym made.to_region) below;
+  within = subst (λ (n : ℕ). n ≤ length p.reply.items) (sym made.none_taken) (omega arith);
+  at_end = λ e. absurd (true≢false (sym e ∙ made.not_ended));
+  at_once = λ _ h. absurd (omega (arith, h, made.none_taken));
+  few = omega (arith, made.needs, few);
+  served = if_tables m.tells_servers m.servers.items m.regions.items (IsServed p) (λ tells. fresh_served m region number request needed said table p whole below answers is made (unsaid tells) tells);
+}
 
--- links that made an ask are whole
-pub whole_asked : (m n : Inside) (key : ℕ) (p : Pending) → IsWhole m → n.servers.items ≡ m.servers.items → n.order ≡ m.order → n.most ≡ m.most → n.rejections.items ≡ m.rejections.items → m.patience ≤ n.patience
-    → get n.asks key ≡ Some p → OthersAre m.asks n.asks key → IsKept m.servers.items m.most n.patience p → IsWhole n
-whole_asked m n key p whole tables order most counts higher is others fits =
-    let kept : AreKept m.servers.items m.most n.patience n.asks = kept_asked m.servers.items m.most m.patience n.patience key p m.asks n.asks whole.kept is others fits higher in
-    record {
-      distinct = subst (λ (ts : List Timetable). AreDistinct (map region_of_table ts)) (sym tables) whole.distinct;
-      well = subst (λ (ts : List Timetable). Each IsWell ts) (sym tables) whole.well;
-      counted = ap (λ (xs : List ℕ). length xs) counts ∙ (whole.counted ∙ sym (ap (λ (ts : List Timetable). length ts) tables));
-      low = subst (λ (k : ℕ). k ≤ 10) (sym order) whole.low;
-      kept = subst (λ (k : ℕ). AreKept n.servers.items k n.patience n.asks) (sym most) (subst (λ (ts : List Timetable). AreKept ts m.most n.patience n.asks) (sym tables) kept);
-    }
+kept_higher : (regions : ℕ) (told : Option (List Timetable)) (most before now : ℕ) (asks : Slab Pending) → before ≤ now → AreKept regions told most before asks → AreKept regions told most now asks
+kept_higher regions told most before now asks higher kept key q at =
+    let k : IsKept regions told most before q = kept key q at in
+    let few : q.rests ≤ before = k.few in
+    record { of_region = k.of_region; within = k.within; at_end = k.at_end; at_once = k.at_once; few = omega (arith, few, higher); served = k.served }
+
+pub whole_asked : (m n : Inside) (key : ℕ) (p : Pending) → IsWhole m → SameTerms (view_of m) (view_of n) → n.regions.items ≡ m.regions.items → m.patience ≤ n.patience → get n.asks key ≡ Some p → OthersAre m.asks n.asks key
+    → IsKept (length m.regions.items) (told_by m) m.most n.patience p → IsWhole n
+whole_asked m n key p whole terms regions higher is others fits =
+    whole_after m n whole terms (same_regions m n regions) (λ tells. subst (λ (rs : List Region). Each IsToldOf rs) (sym regions) (whole.told tells))
+    (kept_with (length m.regions.items) (told_by m) m.most n.patience m.asks n.asks key p (kept_higher (length m.regions.items) (told_by m) m.most m.patience n.patience m.asks higher whole.kept) is others fits)
+
+pub whole_refused : (m n : Inside) → IsWhole m → SameTerms (view_of m) (view_of n) → n.regions.items ≡ m.regions.items → n.patience ≡ m.patience → ((key : ℕ) → get n.asks key ≡ get m.asks key) → IsWhole n
+whole_refused m n whole terms regions patience asks =
+    whole_after m n whole terms (same_regions m n regions) (λ tells. subst (λ (rs : List Region). Each IsToldOf rs) (sym regions) (whole.told tells))
+    (subst (λ (k : ℕ). AreKept (length m.regions.items) (told_by m) m.most k n.asks) (sym patience) (λ key p at. whole.kept key p (sym (asks key) ∙ at)))
+
+-- where timetables are told no ask fails
+told_answers : (m : Inside) (region : ℕ) (said : Option What) → IsWhole m → region < length m.regions.items → said ≡ None → answering said (table_number (slice_get m.regions.items region)) ≡ None → m.tells_servers ≡ true → ⊥
+told_answers m region said whole below unsaid none tells =
+    let it = region_there m.regions.items region below in
+    let told : IsToldOf it.0 = each_at IsToldOf m.regions.items region it.0 (whole.told tells) it.1 in
+    let gone : it.0.table ≡ None = sym (ap table_number it.1) ∙ (sym (ap (λ (s : Option What). answering s (table_number (slice_get m.regions.items region))) unsaid) ∙ none) in
+    absurd (true≢false (sym told.has_table ∙ ap (λ (o : Option ℕ). is_some o) gone))
+
+pub whole_failed : (m n : Inside) (region : ℕ) (r : Region) (said : Option What) → IsWhole m → SameTerms (view_of m) (view_of n) → region < length m.regions.items → slice_get m.regions.items region ≡ Some r → ChangesAt faulted m.regions.items n.regions.items region
+    → IfSome (slice_get m.regions.items region) DoesNotFall → (m.tells_servers ≡ true → said ≡ None) → answering said (table_number (slice_get m.regions.items region)) ≡ None → n.asks ≡ m.asks → n.patience ≡ m.patience → IsWhole n
+whole_failed m n region r said whole terms below there h later unsaid none asks patience =
+    let counted = counted_fault m n region r mores.Failed there h later in
+    whole_after m n whole terms counted.same (λ tells. absurd (told_answers m region said whole below (unsaid tells) none tells))
+    (subst (λ (k : ℕ). AreKept (length m.regions.items) (told_by m) m.most k n.asks) (sym patience) (subst (λ (s : Slab Pending). AreKept (length m.regions.items) (told_by m) m.most m.patience s) (sym asks) whole.kept))
+
+-- ---- what an ask does here
+
+pub makes_by : (m n : Inside) (region key : ℕ) (request : List ℕ) (number : ℕ) (table : Timetable) (p : Pending) → SameTerms (view_of m) (view_of n) → n.regions.items ≡ m.regions.items → n.made ≡ next_count m.made → n.rested ≡ m.rested
+    → answering (said_in m.script.entries n.made) (table_number (slice_get m.regions.items region)) ≡ Some number → slice_get m.servers.items number ≡ Some table → get n.asks key ≡ Some p
+    → IsMade region request (rests_needed m.order n.made) (said_in m.script.entries n.made) table p → AsksBy (view_of m) (view_of n) region request (Ok (record { key = key }))
+makes_by m n region key request number table p terms regions made rest answers is at fresh = record {
+  terms = terms;
+  ends_by = record {
+    counted = made;
+    regions_same = regions;
+    number = number;
+    answers = subst (λ (k : ℕ). answering (said_in m.script.entries k) (table_number (slice_get m.regions.items region)) ≡ Some number) made answers;
+    table = table;
+    table_is = is;
+    ask = p;
+    ask_is = at;
+    made = subst (λ (k : ℕ). IsMade region request (rests_needed m.order k) (said_in m.script.entries k) table p) made fresh;
+  };
+  rested_same = rest;
+}
+
+pub fails_by : (m n : Inside) (region : ℕ) (request : List ℕ) → SameTerms (view_of m) (view_of n) → n.made ≡ next_count m.made → n.rested ≡ m.rested → n.asks ≡ m.asks → ChangesAt faulted m.regions.items n.regions.items region
+    → answering (said_in m.script.entries n.made) (table_number (slice_get m.regions.items region)) ≡ None → AsksBy (view_of m) (view_of n) region request (Err refused.Failed)
+fails_by m n region request terms made rest asks rises none = record {
+  terms = terms;
+  ends_by = record {
+    counted = made;
+    asks_same = asks;
+    none_answers = subst (λ (k : ℕ). answering (said_in m.script.entries k) (table_number (slice_get m.regions.items region)) ≡ None) made none;
+    rises = rises;
+  };
+  rested_same = rest;
+}
+
+pub none_by : (m n : Inside) (region : ℕ) (request : List ℕ) → SameTerms (view_of m) (view_of n) → n.regions.items ≡ m.regions.items → n.made ≡ m.made → n.rested ≡ m.rested → AsksBy (view_of m) (view_of n) region request (Err refused.NoMemory)
+none_by m n region request terms regions made rest = record { terms = terms; ends_by = record { made_same = made; regions_same = regions }; rested_same = rest }

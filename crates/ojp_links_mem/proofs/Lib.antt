@@ -1,7 +1,12 @@
+pub mod AddFacts
 pub mod AskFacts
 pub mod EndFacts
+pub mod FixedFacts
 pub mod LookFacts
 pub mod NewFacts
+pub mod NumberFacts
+pub mod RegionFacts
 pub mod RestFacts
+pub mod ScriptFacts
 pub mod ServedFacts
 pub mod SoundFacts

@@ -1,5 +1,5 @@
 -- What a server wrote for the bytes of a request, to a sink that was empty, is a response to them.
-use Rattle.std.proofs.Common.{◌≡◌, ℕ, List, [], ◌∷◌, ◌++◌, Option, Some, IfSome, Result, Ok, Err, IfOk, sym, subst}
+use Rattle.std.proofs.Common.{◌≡◌, ℕ, List, [], ◌∷◌, ◌++◌, Option, Some, None, IfSome, Result, Ok, Err, IfOk, sym, ◌∙◌, subst}
 use Rattle.std.specs.Io.KnownBytes.{Appends}
 use Rattle.ojp_values.specs.Lists.{Each}
 use Rattle.ojp_grammar.specs.Answering.{AnswersBody}
@@ -9,7 +9,12 @@ use Rattle.ojp_http.specs.Serving.{ServedAs}
 use Rattle.ojp_timetable.specs.Tables.{Timetable}
 use Rattle.ojp_timetable.specs.Runs.{IsWell}
 use Rattle.ojp_timetable.specs.Answers.{RegionAnswers}
+use Rattle.std.proofs.lemmas.Option.{none-some, same_Some}
 use Rattle.ojp_links.specs.Replies.{ServesByTable}
+use Rattle.ojp_links_mem.specs.Scripts.{stated}
+use Rattle.ojp_links_mem.specs.Pending.{IsReplyBy}
+use Rattle.ojp_links_mem.specs.declared.script.What.{What}
+use Rattle.ojp_links_mem.specs.declared.script.What.TheVariants.{FailAsk, FailMore, Reply}
 
 pub served_reply : (table : Timetable) (old new : Wire) (status : ℕ) (request written : List ℕ) → old.input.left ≡ Some request → old.output.written ≡ Some [] → new.output.written ≡ Some written
     → Serves (AnswersBody (RegionAnswers table)) old new (Answered status) → ServesByTable table request written
@@ -28,3 +33,19 @@ each_more (t ∷ tables) table all well = (all.0, each_more tables table all.1 w
 pub if_ok_map : {T E : Type 0} (r : Result T E) (P Q : T → Type 0) → ((x : T) → P x → Q x) → IfOk r P → IfOk r Q
 if_ok_map (Ok x) P Q f h = f x h
 if_ok_map (Err e) P Q f h = tt
+
+-- ---- the whole reply of an ask
+
+-- a reply that is stated
+pub reply_stated : (said : Option What) (table : Timetable) (request bytes out : List ℕ) → stated said ≡ Some bytes → out ≡ bytes → IsReplyBy said table request out
+reply_stated (Some (Reply b)) table request bytes out e f = f ∙ sym (same_Some b.items bytes e)
+reply_stated (Some FailAsk) table request bytes out e f = absurd (none-some bytes e)
+reply_stated (Some FailMore) table request bytes out e f = absurd (none-some bytes e)
+reply_stated None table request bytes out e f = absurd (none-some bytes e)
+
+-- and one that is not
+pub reply_served : (said : Option What) (table : Timetable) (request out : List ℕ) → stated said ≡ None → ServesByTable table request out → IsReplyBy said table request out
+reply_served (Some (Reply b)) table request out e h = absurd (none-some b.items (sym e))
+reply_served (Some FailAsk) table request out e h = h
+reply_served (Some FailMore) table request out e h = h
+reply_served None table request out e h = h

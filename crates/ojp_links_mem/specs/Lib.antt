@@ -1,3 +1,5 @@
+pub mod Scripts
+pub mod Regions
 pub mod Pending
 pub mod Memory
 pub mod Kept

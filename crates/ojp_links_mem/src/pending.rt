@@ -2,6 +2,7 @@
 
 ghost use Rattle.std.specs.Prelude.{◌≡◌, ◌≢◌, ◌≤◌, ℕ, length, option_map, Some};
 ghost use Rattle.slab.specs.Slab.{ContainsKey, get};
+ghost use Rattle.ojp_links_mem.specs.Memory.{LooksAtOne};
 ghost use Rattle.ojp_links_mem.specs.Pending.{AllRested, LooksAt, piece_of, rested};
 ghost use Rattle.ojp_links_mem.specs.declared.pending.Pending.{Pending as Ask};
 
@@ -21,6 +22,8 @@ pub(crate) struct Pending {
     pub looks: u64,
     /// How many rests it still needs.
     pub rests: u64,
+    /// Whether each look fails.
+    pub fails: bool,
 }
 
 impl Pending {
@@ -30,6 +33,9 @@ impl Pending {
         ensures { LooksAt most self.old self.new result }
     {
         self.looks = self.looks.saturating_add(1);
+        if self.fails {
+            return More::Failed;
+        }
         if self.rests > 0 {
             return More::NotYet;
         }
@@ -55,13 +61,20 @@ fn piece_of(most: usize, left: usize) -> usize
 pub(crate) fn look_at(asks: &mut Slab<Pending>, key: usize, most: usize) -> More
     requires live { ContainsKey asks.old key }
     requires within { (p : Ask) → get asks.old key ≡ Some p → p.taken ≤ length p.reply.items }
-    ensures looks { (p : Ask) → get asks.old key ≡ Some p → (now : Ask) × (get asks.new key ≡ Some now) × LooksAt most p now result }
-    ensures others { (other : ℕ) → other ≢ key → get asks.new other ≡ get asks.old other }
+    ensures { LooksAtOne most asks.old asks.new key result }
 {
     let Some(ask) = asks.get_mut(key) else {
         unreachable!()
     };
     ask.look(most)
+}
+
+/// The region of the ask with the key.
+pub(crate) fn region_of(asks: &Slab<Pending>, key: usize) -> usize
+    requires { ContainsKey asks.now key }
+    ensures { (p : Ask) → get asks.now key ≡ Some p → result ≡ p.region }
+{
+    asks[key].region
 }
 
 /// Each ask needs one rest less.

@@ -1,13 +1,16 @@
 //! A region's server in memory.
 
-ghost use Rattle.std.specs.Prelude.{◌≡◌, ◌<◌, IfOk, length};
+ghost use Rattle.std.specs.Prelude.{◌≡◌, ◌<◌, IfOk, Some, length, option_copied, slice_get};
 ghost use Rattle.ojp_values.specs.Lists.{Each};
 ghost use Rattle.ojp_timetable.specs.Runs.{IsWell};
 ghost use Rattle.ojp_scan.specs.Scans.{IsMadeFor};
 ghost use Rattle.ojp_links.specs.Replies.{ServesByTable};
-ghost use Rattle.ojp_links_mem.specs.Pending.{IsMade};
+ghost use Rattle.ojp_links_mem.specs.Pending.{IsMade, IsReplyBy};
+ghost use Rattle.ojp_links_mem.specs.Scripts.{fails_later, stated};
+ghost use Rattle.ojp_timetable.specs.Tables.{Timetable as TimetableValue};
 
 use crate::pending::Pending;
+use crate::script::What;
 use ojp_http::Served;
 use ojp_outside::{MemSink, MemSource};
 use ojp_region::serve_one;
@@ -109,21 +112,74 @@ pub(crate) fn servers_of(alloc: Global, tables: Vec<Timetable>) -> Result<Vec<Se
     Ok(servers)
 }
 
-/// An ask of the region with the number, answered by its server.
+/// What the server with the number writes for the request.
+fn answer_of(
+    alloc: Global,
+    servers: &mut Vec<Server>,
+    number: usize,
+    request: &[u8],
+) -> Result<Vec<u8>, NoMemory>
+    requires { number < length servers.old.items }
+    ensures same { servers.new.items ≡ servers.old.items }
+    ensures serves { IfOk result (λ reply. (table : TimetableValue) → slice_get servers.old.items number ≡ Some table → ServesByTable table request.now reply.items) }
+{
+    let sent = copied(alloc, request)?;
+    servers[number].reply(alloc, sent)
+}
+
+/// The whole reply of an ask that the server with the number answers: that of the script, and else what the server
+/// writes.
+fn reply_of(
+    alloc: Global,
+    servers: &mut Vec<Server>,
+    number: usize,
+    said: Option<&What>,
+    request: &[u8],
+) -> Result<Vec<u8>, NoMemory>
+    requires { number < length servers.old.items }
+    ensures same { servers.new.items ≡ servers.old.items }
+    ensures reply { IfOk result (λ reply. (table : TimetableValue) → slice_get servers.old.items number ≡ Some table → IsReplyBy (option_copied said.entry) table request.now reply.items) }
+{
+    match stated(said) {
+        Some(bytes) => copied(alloc, bytes),
+        None => answer_of(alloc, servers, number, request),
+    }
+}
+
+/// The reply that is stated, if one is.
+fn stated<'a>(said: Option<&'a What>) -> Option<&'a [u8]>
+    ensures { option_copied result ≡ stated (option_copied said.entry) }
+{
+    match said {
+        Some(What::Reply(bytes)) => Some(bytes.as_slice()),
+        _ => None,
+    }
+}
+
+/// Whether each look at the ask fails.
+fn fails_later(said: Option<&What>) -> bool
+    ensures { result ≡ fails_later (option_copied said.entry) }
+{
+    matches!(said, Some(What::FailMore))
+}
+
+/// An ask of the region, which the server with the number answers.
 pub(crate) fn asked(
     alloc: Global,
     servers: &mut Vec<Server>,
+    number: usize,
+    said: Option<&What>,
     region: usize,
     request: &[u8],
     rests: u64,
 ) -> Result<Pending, NoMemory>
-    requires { region < length servers.old.items }
+    requires { number < length servers.old.items }
     ensures same { servers.new.items ≡ servers.old.items }
-    ensures made { IfOk result (IsMade servers.old.items region request.now rests) }
+    ensures made { IfOk result (λ ask. (table : TimetableValue) → slice_get servers.old.items number ≡ Some table → IsMade region request.now rests (option_copied said.entry) table ask) }
 {
-    let sent = copied(alloc, request)?;
     let kept = copied(alloc, request)?;
-    let reply = servers[region].reply(alloc, sent)?;
+    let fails = fails_later(said);
+    let reply = reply_of(alloc, servers, number, said, request)?;
     Ok(Pending {
         region,
         request: kept,
@@ -132,5 +188,6 @@ pub(crate) fn asked(
         ended: false,
         looks: 0,
         rests,
+        fails,
     })
 }
