@@ -11,8 +11,9 @@ use Rattle.ojp_sweep.specs.Rides.{IsWellAt}
 use Rattle.ojp_sweep.specs.Rows.{AreRows}
 use Rattle.ojp_scan.specs.declared.hops.Hop.{Hop}
 use Rattle.ojp_scan.specs.Hops.{IsHop, StandsBefore}
-use Rattle.ojp_scan.specs.Networks.{IsConnection, HasRow, AreRowsUpTo, AreRowsOf}
-use Rattle.ojp_scan.proofs.TableFacts.{IsHopOf, hop-of-calls, one-read, within-read, Among-slice_get, calls-few, calls-forward, departs-forward, departs-offset, arrives-offset}
+use Rattle.ojp_scan.specs.Networks.{IsConnection, IsPlacedAt, HasRow, AreRowsUpTo, AreRowsOf, place_number}
+use Rattle.ojp_scan.specs.Views.{AreCallsOf}
+use Rattle.ojp_scan.proofs.TableFacts.{IsHopOf, hop-of-calls, one-call, one-read, within-read, Among-slice_get, calls-few, calls-forward, departs-forward, departs-offset, arrives-offset}
 use Rattle.ojp_scan.proofs.PlaceFacts.{number-within}
 
 -- what is read of a list stays where one more element is pushed
@@ -113,6 +114,33 @@ module _ (rows : List Connection) (table : Timetable) (j p : ℕ) (are : AreRows
 -- the calls of a hop
 pub hop-calls : (table : Timetable) → IsWell table → (hop : Hop) (h : IsHop table hop) → IsHopOf h.of.calls hop.position
 hop-calls table well hop h = hop-of-calls h.of.calls hop.position (well.shape h.of (Among-slice_get table.journeys hop.journey h.of h.at)) h.within
+
+-- the calls of a hop among those that were read
+pub hop-read : (table : Timetable) → IsWell table → (hop : Hop) → IsHop table hop → (calls : List Call) → AreCallsOf table hop.journey calls → IsHopOf calls hop.position
+hop-read table well hop h calls are =
+    let one = one-read table.journeys hop.journey hop.journey are.journey h.of refl are.at h.at in
+    subst (λ (cs : List Call). IsHopOf cs hop.position) (sym (are.are ∙ ap (λ (j : Journey). j.calls) one)) (hop-calls table well hop h)
+
+-- a hop between the places of its calls is a connection
+pub hop-made : (table : Timetable) (hop : Hop) (calls : List Call) (from to departs arrives : ℕ) (board alight : Call) → AreCallsOf table hop.journey calls
+    → slice_get calls hop.position ≡ Some board → slice_get calls (hop.position + 1) ≡ Some alight → board.departs ≡ Some departs → alight.arrives ≡ Some arrives
+    → IsPlacedAt table hop.journey hop.position from → IsPlacedAt table hop.journey (hop.position + 1) to
+    → IsConnection table (record { departs = departs; arrives = arrives; from = from; to = to; journey = hop.journey; position = hop.position })
+hop-made table hop calls from to departs arrives board alight are leaves comes out in_at f t =
+    let first = subst (λ (cs : List Call). slice_get cs hop.position ≡ Some board) are.are leaves in
+    let last = subst (λ (cs : List Call). slice_get cs (hop.position + 1) ≡ Some alight) are.are comes in
+    record {
+      of = are.journey;
+      board = board;
+      alight = alight;
+      at = are.at;
+      board_at = first;
+      alight_at = last;
+      departs = out;
+      arrives = in_at;
+      from = subst (λ (k : Call). place_number table k.stop ≡ Some from) (one-call table hop.journey hop.position f.of are.journey f.call board f.at are.at f.call_at first) f.number;
+      to = subst (λ (k : Call). place_number table k.stop ≡ Some to) (one-call table hop.journey (hop.position + 1) t.of are.journey t.call alight t.at are.at t.call_at last) t.number;
+    }
 
 -- the hops of a table
 module _ (table : Timetable) (well : IsWell table) where

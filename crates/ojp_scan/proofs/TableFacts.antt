@@ -1,11 +1,12 @@
 -- What a well timetable says of its calls: they go forward, within the days around.
 use Rattle.std.proofs.Common.{◌≡◌, ℕ, suc, zero, ◌+◌, ◌*◌, ◌<◌, ◌≤◌, List, [], ◌∷◌, Option, Some, None, length, sym, ap, subst, refl, inl, inr, arith, slice_get, ◌∙◌, add-one, true≢false}
-use Rattle.std.specs.Prelude.{IsSome}
+use Rattle.std.specs.Prelude.{IsSome, option_map, unwrap_or}
 use Rattle.std.proofs.lemmas.List.Recursion.{is_sum_by}
 use Rattle.std.proofs.lemmas.Option.{none-some, same_Some}
 use Rattle.ojp_values.specs.Lists.{Among}
 use Rattle.ojp_timetable.specs.Tables.{Timetable, Journey}
 use Rattle.ojp_timetable.specs.declared.calls.Call.{Call}
+use Rattle.ojp_timetable.specs.Views.{calls_at}
 use Rattle.ojp_timetable.specs.Runs.{NotBefore, latest, NoneFalls, GoToEnd, AreWhole, calls_of, IsOffset, IsWell, IsWellCall, moment}
 
 -- an element that is read stands in the list
@@ -184,3 +185,8 @@ departs-forward t (c ∷ cs) zero (suc j) from to u v falls le a b d e =
     omega arith
 departs-forward t (c ∷ cs) (suc i) (suc j) from to u v falls le a b d e =
     departs-forward (latest (latest t c.arrives) c.departs) cs i j from to u v falls.2 (omega arith) a b d e
+
+-- the calls of a journey, as they are read
+pub calls-are : (journeys : List Journey) (i : ℕ) (journey : Journey) → slice_get journeys i ≡ Some journey → calls_at journeys i ≡ journey.calls
+unfolding calls_at
+calls-are journeys i journey at = ap (λ (o : Option Journey). unwrap_or (option_map (λ (j : Journey). j.calls) o) []) at

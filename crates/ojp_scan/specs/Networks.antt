@@ -13,6 +13,14 @@ use Rattle.ojp_scan.specs.Hops.{StandsBefore}
 abbrev pub place_number : Timetable → Text → Option ℕ
 place_number table stop = position (λ (place : Place). bytes_eq stop place.stop) table.places
 
+-- the call at that position of the journey is at the place of that number
+pub record IsPlacedAt (table : Timetable) (journey position place : ℕ) : Type 0 where
+  pub of : Journey
+  pub call : Call
+  pub at : slice_get table.journeys journey ≡ Some of
+  pub call_at : slice_get of.calls position ≡ Some call
+  pub number : place_number table call.stop ≡ Some place
+
 -- the connection is a hop of the table: from a call of a journey to the next, between the places of their stops
 pub record IsConnection (table : Timetable) (connection : Connection) : Type 0 where
   pub of : Journey

@@ -1,13 +1,7 @@
-use Rattle.std.proofs.Common.{◌≡◌, ◌<◌, ℕ, List, [], Option, Some, length, sym, ap, subst, slice_get}
-use Rattle.std.specs.Prelude.{option_map, unwrap_or}
-use Rattle.ojp_timetable.specs.Tables.{Journey}
+use Rattle.std.proofs.Common.{◌≡◌, ◌<◌, List, Some, length, sym, subst, slice_get}
 use Rattle.ojp_timetable.specs.declared.calls.Call.{Call}
-use Rattle.ojp_timetable.specs.Views.{calls_at}
+use Rattle.ojp_scan.proofs.TableFacts.{calls-are}
 use Rattle.ojp_scan.proofs.views.call_at.Goals as goal
-
-calls-are : (journeys : List Journey) (i : ℕ) (journey : Journey) → slice_get journeys i ≡ Some journey → calls_at journeys i ≡ journey.calls
-unfolding calls_at
-calls-are journeys i journey at = ap (λ (o : Option Journey). unwrap_or (option_map (λ (j : Journey). j.calls) o) []) at
 
 pub call-requires : goal.call-requires
 call-requires c =
