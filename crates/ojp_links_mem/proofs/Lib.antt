@@ -1,6 +1,7 @@
 pub mod AddFacts
 pub mod AskFacts
 pub mod EndFacts
+pub mod FileFacts
 pub mod FixedFacts
 pub mod LookFacts
 pub mod NewFacts
@@ -10,3 +11,4 @@ pub mod RestFacts
 pub mod ScriptFacts
 pub mod ServedFacts
 pub mod SoundFacts
+pub mod TwiceFacts

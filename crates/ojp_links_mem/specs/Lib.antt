@@ -3,3 +3,4 @@ pub mod Regions
 pub mod Pending
 pub mod Memory
 pub mod Kept
+pub mod Files

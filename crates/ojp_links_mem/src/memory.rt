@@ -1,9 +1,9 @@
 //! Links to regions in memory.
 
-ghost use Rattle.std.specs.Prelude.{◌≡◌, ◌≤◌, ◌<◌, ℕ, length, map, IfOk, OnOk, OnErr, refl};
+ghost use Rattle.std.specs.Prelude.{◌≡◌, [], ◌≤◌, ◌<◌, ℕ, length, map, IfOk, OnOk, OnErr, refl};
 ghost use Rattle.ojp_links.specs.Seen.{AreDistinct, IsLive, NoneLive, code_at, region_of_table};
 ghost use Rattle.ojp_links.specs.Calls.{Adds, Asks, Closes, Idles, IsNewCode, Looks, MayReject, Rejects, RestsOnce};
-ghost use Rattle.ojp_links_mem.specs.Memory.{AddsBy, AsksBy, ClosesBy, GivesBy, IsNewOver, IsScriptedOver, IsUnopenedOver, RejectsBy, Renumbers, RestsBy, links_of};
+ghost use Rattle.ojp_links_mem.specs.Memory.{AddsBy, AsksBy, ClosesBy, GivesBy, IsFresh, IsNewOver, IsScriptedOver, IsUnopenedOver, RejectsBy, Renumbers, RestsBy, links_of};
 
 use crate::pending::{Pending, look_at, region_of, rest_all};
 use crate::regions::{
@@ -149,6 +149,31 @@ impl MemLinks {
             tells_servers: true,
             tells_order: false,
         })
+    }
+
+    /// Links to no region, of no timetable; it takes no memory.
+    pub(crate) fn bare(alloc: Global) -> MemLinks
+        ensures no_region { (links_of result).fixed.stations ≡ [] }
+        ensures fresh { IsFresh result }
+    {
+        let servers = Vec::new(alloc);
+        let regions = Vec::new(alloc);
+        let script = BTreeMap::new(alloc);
+        let asks = Slab::new(alloc);
+        MemLinks {
+            alloc,
+            servers,
+            regions,
+            script,
+            asks,
+            patience: 0,
+            order: 0,
+            most: 0,
+            made: 0,
+            rested: 0,
+            tells_servers: true,
+            tells_order: false,
+        }
     }
 
     /// Counts asks from 1 again, in the new order.
