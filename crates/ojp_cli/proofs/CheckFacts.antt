@@ -6,7 +6,7 @@ use Rattle.ojp_cli.specs.Lent.{Lent, before, after}
 use Rattle.ojp_cli.specs.Checks.{Checked, CheckFails, CheckIsDue, no_document, a_name}
 use Rattle.ojp_cli.specs.Runs.{Ends, Concludes}
 use Rattle.ojp_cli.specs.declared.failures.Failure.{Failure}
-use Rattle.ojp_cli.specs.declared.failures.Failure.TheVariants.{Document, Words, Unread, TooLong, Input, Output, Memory, Line}
+use Rattle.ojp_cli.specs.declared.failures.Failure.TheVariants.{Document, Words, Unread, TooLong, Input, Output, Memory, Line, Doors}
 use Rattle.ojp_cli.proofs.FileFacts.{rests_or_rose}
 use Rattle.ojp_cli.proofs.InputFacts.{reads, spelled_or_refused, refused_or_spelled}
 
@@ -17,6 +17,7 @@ module _ {I O : Type 0} (input : Lent I SourceView) (output : Lent O SinkView) w
   due_to_check (Ok nothing) faults result status e c (no_document bytes heard at reason refused) = absurd (spelled_or_refused Either input bytes heard e.doc at reason e.of_input refused)
   due_to_check (Err (Document place cause)) faults result status e c (no_document bytes heard at reason refused) = inr c.0
   due_to_check (Err Words) faults result status e c (no_document bytes heard at reason refused) = absurd e
+  due_to_check (Err Doors) faults result status e c (no_document bytes heard at reason refused) = absurd e
   due_to_check (Err (Unread name)) faults result status e c (no_document bytes heard at reason refused) = absurd e
   due_to_check (Err (TooLong name)) faults result status e c (no_document bytes heard at reason refused) = absurd e
   due_to_check (Err Input) faults result status e c (no_document bytes heard at reason refused) = absurd (reads Either input bytes heard e.0)
@@ -27,6 +28,7 @@ module _ {I O : Type 0} (input : Lent I SourceView) (output : Lent O SinkView) w
   due_to_check (Err (Document place cause)) faults result status e c (a_name bytes heard doc wanted spells rests) =
       absurd (refused_or_spelled Either input bytes heard doc place cause e.0 wanted spells)
   due_to_check (Err Words) faults result status e c (a_name bytes heard doc wanted spells rests) = absurd e
+  due_to_check (Err Doors) faults result status e c (a_name bytes heard doc wanted spells rests) = absurd e
   due_to_check (Err (Unread name)) faults result status e c (a_name bytes heard doc wanted spells rests) = absurd e
   due_to_check (Err (TooLong name)) faults result status e c (a_name bytes heard doc wanted spells rests) = absurd e
   due_to_check (Err Input) faults result status e c (a_name bytes heard doc wanted spells rests) = absurd (reads Either input bytes heard e.0)

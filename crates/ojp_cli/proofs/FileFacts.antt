@@ -1,5 +1,5 @@
 -- What a told file excludes.
-use Rattle.std.proofs.Common.{◌≡◌, ℕ, ◌<◌, ◌≤◌, ◌-◌, ◌+◌, Option, Some, None, length, refl, sym, ap, ◌∙◌, subst, arith}
+use Rattle.std.proofs.Common.{◌≡◌, ℕ, ◌<◌, ◌≤◌, ◌-◌, ◌+◌, Option, Some, None, length, ap, subst, arith}
 use Rattle.std.specs.Prelude.{IfSome, IsSomeAnd}
 use Rattle.ojp_values.specs.Texts.{Text}
 use Rattle.ojp_outside.specs.Files.{IsContents}
@@ -17,9 +17,9 @@ pub rests_or_rose : (before now : ℕ) → Rests before now → Rose before now 
 rests_or_rose before now rests rose = omega arith
 
 -- what is told holds
-pub told_is : (P : Text → Type 0) (told : Option Text) (bytes : Text) → told ≡ Some bytes → IfSome told P → P bytes
-told_is P None bytes e h = absurd (cc)
-told_is P (Some x) bytes e h = let same : x ≡ bytes = cc in subst P same h
+pub told_is : {A : Type 0} (P : A → Type 0) (told : Option A) (value : A) → told ≡ Some value → IfSome told P → P value
+told_is P None value e h = absurd (cc)
+told_is P (Some x) value e h = let same : x ≡ value = cc in subst P same h
 
 contents_are : (contents : Option (Text → Option Text)) (files : Text → Option Text) (file bytes held : Text)
     → contents ≡ Some files → files file ≡ Some bytes → IsContents contents file held → held ≡ bytes

@@ -4,3 +4,6 @@ pub mod InputFacts
 pub mod PlanFacts
 pub mod CheckFacts
 pub mod RunFacts
+pub mod ServingFacts
+pub mod RegionFacts
+pub mod WordFacts

@@ -1,5 +1,5 @@
 -- How far the reading of a document has come.
-use Rattle.std.proofs.Common.{◌≡◌, ◌≢◌, ℕ, zero, suc, ◌+◌, ◌-◌, ◌<◌, ◌≤◌, ◌^◌, [], ◌∷◌, ◌++◌, length, take, drop, Option, Some, None, Result, Ok, Err, IfOk, IfErr, refl, sym, ap, ◌∙◌, subst, inl, inr, arith, append_assoc, append-nil, length-append, take-append-drop}
+use Rattle.std.proofs.Common.{◌≡◌, ◌≢◌, ℕ, zero, suc, ◌+◌, ◌-◌, ◌<◌, ◌≤◌, ◌^◌, [], ◌∷◌, ◌++◌, length, take, drop, Option, Some, None, Result, Ok, Err, refl, sym, ap, ◌∙◌, subst, inl, inr, arith, append_assoc, append-nil, length-append, take-append-drop}
 use Rattle.ojp_grammar.specs.declared.refusals.Reason.{Reason}
 use Rattle.std.specs.Prelude.{IfSome, Bool, true, false, ◌||◌, ◌&&◌, ◌==◌, nat_lt, IsTrue}
 use Rattle.std.specs.Io.KnownBytes.{Consumes, IsAtEnd, Keeps}
@@ -21,7 +21,7 @@ use Rattle.ojp_decode.specs.declared.fed.ReadRefused.{ReadRefused}
 use Rattle.ojp_decode.specs.declared.fed.ReadRefused.TheVariants.{At, NoMemory}
 use Rattle.ojp_outside.specs.Seen.{SourceView}
 use Rattle.ojp_cli.specs.Lent.{Lent, before, after}
-use Rattle.ojp_cli.specs.Inputs.{IsDocumentOf, IsNoDocument, IsReadInPart, FailsToRead, RefusesNone, TakesToRefusal, ReadsAs}
+use Rattle.ojp_cli.specs.Inputs.{FailsToRead, RefusesNone, ReadsAs}
 use Rattle.ojp_cli.specs.Pieces.{Took, HasTaken, FeedsAll, Finishes, input_refusal}
 use Rattle.ojp_cli.specs.declared.input.InputRefused.{InputRefused}
 use Rattle.ojp_cli.specs.declared.input.InputRefused.TheVariants as refusals

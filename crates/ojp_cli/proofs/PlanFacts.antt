@@ -10,7 +10,7 @@ use Rattle.ojp_cli.specs.Files.{IsAccepted}
 use Rattle.ojp_cli.specs.Plans.{Planned, PlanFails, PlanIsDue, too_long, no_table, no_request, an_answer}
 use Rattle.ojp_cli.specs.Runs.{Ends, Concludes}
 use Rattle.ojp_cli.specs.declared.failures.Failure.{Failure}
-use Rattle.ojp_cli.specs.declared.failures.Failure.TheVariants.{Document, Words, Unread, TooLong, Input, Output, Memory, Line}
+use Rattle.ojp_cli.specs.declared.failures.Failure.TheVariants.{Document, Words, Unread, TooLong, Input, Output, Memory, Line, Doors}
 use Rattle.ojp_cli.specs.declared.input.InputRefused.{InputRefused}
 use Rattle.ojp_cli.specs.declared.input.InputRefused.TheVariants as refusals
 use Rattle.ojp_cli.proofs.FileFacts.{rests_or_rose, opens, long_or_short, within_limit, refused_within, accepted_or_refused, refused_or_accepted}
@@ -33,6 +33,7 @@ module _ {F I O : Type 0} (file : Text) (store : Lent F StoreView) (input : Lent
   due_to_plan (Ok nothing) faults result status e c (too_long bytes r long) = absurd (within_limit file store bytes r e.due.table e.due.of_file long)
   due_to_plan (Err (Document at reason)) faults result status e c (too_long bytes r long) = absurd (within_limit file store bytes r e.0.0 e.0.1 long)
   due_to_plan (Err Words) faults result status e c (too_long bytes r long) = absurd e
+  due_to_plan (Err Doors) faults result status e c (too_long bytes r long) = absurd e
   due_to_plan (Err (Unread name)) faults result status e c (too_long bytes r long) = absurd (opens file store bytes r e.1)
   due_to_plan (Err (TooLong name)) faults result status e c (too_long bytes r long) = inr c.0
   due_to_plan (Err Input) faults result status e c (too_long bytes r long) = absurd (within_limit file store bytes r e.0.0 e.0.1 long)
@@ -43,6 +44,7 @@ module _ {F I O : Type 0} (file : Text) (store : Lent F StoreView) (input : Lent
   due_to_plan (Ok nothing) faults result status e c (no_table bytes r short n why refused) = absurd (accepted_or_refused file store bytes r e.due.table n why e.due.of_file refused)
   due_to_plan (Err (Document at reason)) faults result status e c (no_table bytes r short n why refused) = absurd (accepted_or_refused file store bytes r e.0.0 n why e.0.1 refused)
   due_to_plan (Err Words) faults result status e c (no_table bytes r short n why refused) = absurd e
+  due_to_plan (Err Doors) faults result status e c (no_table bytes r short n why refused) = absurd e
   due_to_plan (Err (Unread name)) faults result status e c (no_table bytes r short n why refused) = absurd (opens file store bytes r e.1)
   due_to_plan (Err (TooLong name)) faults result status e c (no_table bytes r short n why refused) = absurd (long_or_short file store bytes r e.1 short)
   due_to_plan (Err Input) faults result status e c (no_table bytes r short n why refused) = absurd (accepted_or_refused file store bytes r e.0.0 n why e.0.1 refused)
@@ -54,6 +56,7 @@ module _ {F I O : Type 0} (file : Text) (store : Lent F StoreView) (input : Lent
       absurd (spelled_or_refused wants.Request input bytes heard (docs.Ask e.due.ask) at reason e.due.of_input refused)
   due_to_plan (Err (Document place cause)) faults result status e c (no_request table good bytes heard at reason refused) = inr c.0
   due_to_plan (Err Words) faults result status e c (no_request table good bytes heard at reason refused) = absurd e
+  due_to_plan (Err Doors) faults result status e c (no_request table good bytes heard at reason refused) = absurd e
   due_to_plan (Err (Unread name)) faults result status e c (no_request table good bytes heard at reason refused) = absurd (opens file store good.bytes good.readable e.1)
   due_to_plan (Err (TooLong name)) faults result status e c (no_request table good bytes heard at reason refused) = absurd (long_or_short file store good.bytes good.readable e.1 good.within)
   due_to_plan (Err Input) faults result status e c (no_request table good bytes heard at reason refused) = absurd (reads wants.Request input bytes heard e.1)
@@ -67,6 +70,7 @@ module _ {F I O : Type 0} (file : Text) (store : Lent F StoreView) (input : Lent
   due_to_plan (Err (Document at reason)) faults result status e c (an_answer table good bytes heard ask spells rests) =
       absurd (refused_or_spelled wants.Request input bytes heard (docs.Ask ask) at reason e.1 spells.wanted spells.spells)
   due_to_plan (Err Words) faults result status e c (an_answer table good bytes heard ask spells rests) = absurd e
+  due_to_plan (Err Doors) faults result status e c (an_answer table good bytes heard ask spells rests) = absurd e
   due_to_plan (Err (Unread name)) faults result status e c (an_answer table good bytes heard ask spells rests) = absurd (opens file store good.bytes good.readable e.1)
   due_to_plan (Err (TooLong name)) faults result status e c (an_answer table good bytes heard ask spells rests) =
       absurd (long_or_short file store good.bytes good.readable e.1 good.within)

@@ -17,7 +17,7 @@ use Rattle.ojp_cli.specs.Lent.{Lent, before, after, IsUnused, Gains, GainsInPart
 use Rattle.ojp_cli.specs.Inputs.{IsDocumentOf, IsNoDocument, FailsToRead, IsReadInPart, IsHeard}
 use Rattle.ojp_cli.specs.Failures.{line_of}
 use Rattle.ojp_cli.specs.declared.failures.Failure.{Failure}
-use Rattle.ojp_cli.specs.declared.failures.Failure.TheVariants.{Document, Words, Unread, TooLong, Input, Output, Memory, Line}
+use Rattle.ojp_cli.specs.declared.failures.Failure.TheVariants.{Document, Words, Unread, TooLong, Input, Output, Memory, Line, Doors}
 
 abbrev pub ask_name : Ask → Text
 ask_name (asks.Trip ask) = codes "OJPTripRequest"
@@ -58,6 +58,7 @@ CheckFails input output Input = FailsToRead input × IsUnused output
 CheckFails input output Output = CheckedInPart input output
 CheckFails input output Memory = IsReadInPart input × IsUnused output
 CheckFails input output (Line name line reason) = ⊥
+CheckFails input output Doors = ⊥
 
 -- the status that is due where the input tells its bytes and no count rose
 pub data CheckIsDue {I O : Type 0} (input : Lent I SourceView) (output : Lent O SinkView) : ℕ → Type 0 where

@@ -5,7 +5,7 @@ use Rattle.ojp_values.specs.Texts.{Text}
 use Rattle.ojp_timetable.specs.Views.{reason_words}
 use Rattle.ojp_grammar.specs.Reasons.{refusal_text}
 use Rattle.ojp_cli.specs.declared.failures.Failure.{Failure}
-use Rattle.ojp_cli.specs.declared.failures.Failure.TheVariants.{Document, Words, Unread, TooLong, Input, Output, Memory, Line}
+use Rattle.ojp_cli.specs.declared.failures.Failure.TheVariants.{Document, Words, Unread, TooLong, Input, Output, Memory, Line, Doors}
 
 -- the exit status
 abbrev pub status_of : Failure → ℕ
@@ -17,6 +17,7 @@ status_of Input = 3
 status_of Output = 4
 status_of Memory = 5
 status_of (Line file line reason) = 6
+status_of Doors = 9
 
 -- a text as a line
 abbrev pub line_of : Text → Text
@@ -36,3 +37,4 @@ text_of Input = codes "input"
 text_of Output = codes "output"
 text_of Memory = codes "no memory"
 text_of (Line file line reason) = refused_line_text file.now line (reason_words reason)
+text_of Doors = codes "doors"

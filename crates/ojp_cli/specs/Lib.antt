@@ -8,4 +8,6 @@ pub mod Pieces
 pub mod Files
 pub mod Plans
 pub mod Checks
+pub mod Serving
+pub mod Regions
 pub mod Runs

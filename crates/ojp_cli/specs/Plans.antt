@@ -19,7 +19,7 @@ use Rattle.ojp_cli.specs.Lent.{Lent, before, after, IsUnused, Gains, GainsInPart
 use Rattle.ojp_cli.specs.Inputs.{IsDocumentOf, IsNoDocument, FailsToRead, IsReadInPart, IsHeard}
 use Rattle.ojp_cli.specs.Files.{StandsAsBefore, IsFileOf, IsAccepted, FailsToOpen, IsTooLong, IsRefusedFile, IsReadable, IsGood}
 use Rattle.ojp_cli.specs.declared.failures.Failure.{Failure}
-use Rattle.ojp_cli.specs.declared.failures.Failure.TheVariants.{Document, Words, Unread, TooLong, Input, Output, Memory, Line}
+use Rattle.ojp_cli.specs.declared.failures.Failure.TheVariants.{Document, Words, Unread, TooLong, Input, Output, Memory, Line, Doors}
 
 -- the text is the document of a delivery that answers the ask by the timetable
 pub record AnswersAs (table : Timetable) (ask : Ask) (text : Text) : Type 0 where
@@ -57,6 +57,7 @@ PlanFails file store input output Input = IsAccepted file store × FailsToRead i
 PlanFails file store input output Output = PlannedInPart file store input output
 PlanFails file store input output Memory = StandsAsBefore store × IsReadInPart input × IsUnused output
 PlanFails file store input output (Line name line reason) = (name.now ≡ file) × IsRefusedFile file store line reason × IsUnused input × IsUnused output
+PlanFails file store input output Doors = ⊥
 
 -- the status that is due where file and input tell their bytes and no count rose
 pub data PlanIsDue {F I O : Type 0} (file : Text) (store : Lent F StoreView) (input : Lent I SourceView) (output : Lent O SinkView) : ℕ → Type 0 where

@@ -3,3 +3,4 @@
 pub mod answering;
 pub mod check;
 pub mod plan;
+pub mod region;

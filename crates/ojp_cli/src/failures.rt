@@ -44,6 +44,8 @@ pub enum Failure<'a> {
         line: u64,
         reason: TableReason,
     },
+    /// The doors could not listen, or gave no connection.
+    Doors,
 }
 
 impl Failure<'_> {
@@ -60,6 +62,7 @@ impl Failure<'_> {
             Failure::Output => 4,
             Failure::Memory => 5,
             Failure::Line { .. } => 6,
+            Failure::Doors => 9,
         }
     }
 }
@@ -90,6 +93,7 @@ fn tell<E: Sink>(failure: Failure<'_>, faults: &mut E)
         Failure::Output => put(faults, &[b"output\n"]),
         Failure::Memory => put(faults, &[b"no memory\n"]),
         Failure::Line { file, line, reason } => tell_line(file, line, reason.words(), faults),
+        Failure::Doors => put(faults, &[b"doors\n"]),
     }
 }
 

@@ -44,5 +44,6 @@ pub fn run_here<I: Source, O: Sink, E: Sink, F: Store>(
         None => conclude(Err(Failure::Words), faults),
         Some(Command::Plan(file)) => conclude(plan(alloc, file, input, output, store), faults),
         Some(Command::Check) => conclude(check(alloc, input, output), faults),
+        Some(Command::Region(_)) => conclude(Err(Failure::Words), faults),
     }
 }

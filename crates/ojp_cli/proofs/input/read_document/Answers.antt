@@ -1,8 +1,6 @@
-use Rattle.std.proofs.Common.{◌≡◌, ◌<◌, ◌≤◌, ℕ, [], refl, sym, subst, take, length, arith, Err}
-use Rattle.std.proofs.lemmas.List.{length-take, length-take-le}
+use Rattle.std.proofs.Common.{◌≡◌, ◌<◌, ◌≤◌, ℕ, [], refl, subst, take, length, arith}
+use Rattle.std.proofs.lemmas.List.{length-take}
 use Rattle.std.specs.Io.KnownBytes.{Consumes}
-use Rattle.ojp_cli.specs.Inputs.{ReadsAs}
-use Rattle.ojp_cli.specs.declared.input.InputRefused.{InputRefused}
 use Rattle.ojp_cli.proofs.PieceFacts.{HasFed-start, HasFed-more, sees_end, ends_all, stops_early, fails_behind, fed_grows}
 use Rattle.ojp_cli.proofs.input.read_document.Goals as goal
 

@@ -1,0 +1,63 @@
+//! The command `region`: one timetable, served at a port.
+
+ghost use Rattle.std.specs.Prelude.{◌≡◌, ℕ, Option, Some, None, false, Ok, Err, MatchOption};
+ghost use Rattle.ojp_cli.specs.Lent.{lent};
+ghost use Rattle.ojp_cli.specs.Commands.{text_in};
+ghost use Rattle.ojp_cli.specs.Runs.{Ends, AreNumbers};
+ghost use Rattle.ojp_cli.specs.Serving.{seen_as};
+ghost use Rattle.ojp_cli.specs.Regions.{RegionServed, RegionFails};
+
+use crate::failures::Failure;
+use crate::files::{failure_of, read_table};
+use crate::serving::{Listening, NotServed, serve_at};
+use crate::words::{read_count, read_port};
+use ojp_outside::{Doors, Sink, Store};
+use std::alloc::Global;
+use std::sync::Wait;
+
+/// The numbers that the words name.
+pub(crate) fn listening_of(port: &str, count: Option<&str>) -> Option<Listening>
+    ensures { MatchOption result ((at : ℕ) (most : Option ℕ) → AreNumbers port.now (text_in count.entry) at most → ⊥)
+        (λ listening. AreNumbers port.now (text_in count.entry) listening.port listening.count) }
+{
+    let port = read_port(port)?;
+    match count {
+        None => Some(Listening { port, count: None }),
+        Some(word) => {
+            let number = read_count(word)?;
+            Some(Listening {
+                port,
+                count: Some(u64::from(number)),
+            })
+        }
+    }
+}
+
+/// Reads the timetable file, and serves it where the words say.
+pub(crate) fn region<'a, R: Wait, O: Sink, F: Store, D: Doors>(
+    rt: &R,
+    alloc: Global,
+    file: &'a str,
+    listening: Listening,
+    output: &mut O,
+    store: &mut F,
+    doors: &mut D,
+) -> Result<(), Failure<'a>>
+    requires none_out { (D.seen doors.old).is_out ≡ false }
+    ensures { let lent_store = lent F.seen store.old store.new in
+        let lent_output = lent O.seen output.old output.new in
+        let lent_doors = lent (λ d. seen_as (D.seen d) (D.faults d)) doors.old doors.new in
+        Ends (RegionServed file.now listening.port listening.count lent_store lent_output lent_doors)
+        (RegionFails file.now listening.port listening.count lent_store lent_output lent_doors) result }
+{
+    let table = match read_table(alloc, file, store) {
+        Ok(table) => table,
+        Err(refused) => return Err(failure_of(file, refused)),
+    };
+    match serve_at(rt, alloc, &table, listening, output, doors) {
+        Ok(()) => Ok(()),
+        Err(NotServed::Memory) => Err(Failure::Memory),
+        Err(NotServed::Output) => Err(Failure::Output),
+        Err(NotServed::Doors) => Err(Failure::Doors),
+    }
+}
