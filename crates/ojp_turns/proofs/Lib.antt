@@ -1,0 +1,14 @@
+pub mod HeldFacts
+pub mod PollFacts
+pub mod RoundFacts
+pub mod NumberFacts
+pub mod AskedFacts
+pub mod BoundFacts
+pub mod DocumentFacts
+pub mod TurnFacts
+pub mod EndFacts
+pub mod CancelFacts
+pub mod AskFacts
+pub mod FirstFacts
+pub mod LastFacts
+pub mod SearchFacts

@@ -1,0 +1,44 @@
+use Rattle.std.proofs.Common.{◌<◌, ◌≤◌, length, Ok, Err, refl, ◌∙◌, subst, arith, rules}
+use Rattle.ojp_values.specs.declared.asks.TripAsk.{TripAsk}
+use Rattle.ojp_labels.specs.Boards.{ask_of, told_of}
+use Rattle.ojp_turns.specs.Polling.{FirstPolled}
+use Rattle.ojp_turns.specs.Held.{StandsIn}
+use Rattle.ojp_turns.proofs.RoundFacts.{round_start, poll_more, poll_lost, some_ahead, round_ends}
+use Rattle.ojp_turns.proofs.polling.poll_all.Goals as goal
+
+pub polling-init : goal.polling-init
+polling-init g c = record {
+  of = c.requires.of;
+  same_ask = refl;
+  stands = c.requires.stands;
+  polls = round_start c.args.book.now (ask_of c.args.board.now) (g.L.Links.seen c.args.links.now) c.args.subs.now.items (told_of c.args.board.now);
+}
+
+pub poll_first-requires-clause-some : goal.poll_first-requires-clause-some
+poll_first-requires-clause-some g c =
+    some_ahead c.args.book.now (ask_of c.args.board.now) (g.L.Links.seen c.args.links.now) (g.L.Links.seen c.polling.links) c.args.subs.now.items c.polling.subs.items (told_of c.args.board.now) (told_of c.polling.board) c.polling.moved c.polling.counter
+    (first_of (search rules, grind (arith, rules))) c.polling.invariant.polls
+
+pub returns-in-Err-clause-round : goal.returns-in-Err-clause-round
+returns-in-Err-clause-round g c =
+    let below : c.polling.counter < length c.args.subs.now.items = first_of (search rules, grind (arith, rules)) in
+    poll_lost c.args.book.now (ask_of c.args.board.now) (g.L.Links.seen c.args.links.now) (g.L.Links.seen c.polling.links) (g.L.Links.seen c.poll_first.new.links) c.args.subs.now.items c.polling.subs.items c.poll_first.new.subs.items
+    (told_of c.args.board.now) (told_of c.polling.board) (told_of c.poll_first.new.board) c.polling.moved c.polling.counter c.in-Err.field-0 c.requires.stands.are_live.apart below c.polling.invariant.polls
+    (subst (λ (ask : TripAsk). FirstPolled c.args.book.now ask (g.L.Links.seen c.polling.links) (g.L.Links.seen c.poll_first.new.links) c.polling.subs.items c.poll_first.new.subs.items (told_of c.polling.board) (told_of c.poll_first.new.board) (Err c.in-Err.field-0)) c.polling.invariant.same_ask c.in-Err.ensures.polled)
+
+pub polling-preserved : goal.polling-preserved
+polling-preserved g c =
+    let below : c.polling.counter < length c.args.subs.now.items = first_of (search rules, grind (arith, rules)) in
+    record {
+      of = c.in-Ok.ensures.of;
+      same_ask = c.in-Ok.ensures.ask ∙ c.polling.invariant.same_ask;
+      stands = subst (λ (ask : TripAsk). StandsIn c.args.book.now ask (told_of c.poll_first.new.board) c.poll_first.new.subs.items (g.L.Links.seen c.poll_first.new.links)) c.polling.invariant.same_ask c.in-Ok.ensures.stands;
+      polls = poll_more c.args.book.now (ask_of c.args.board.now) (g.L.Links.seen c.args.links.now) (g.L.Links.seen c.polling.links) (g.L.Links.seen c.poll_first.new.links) c.args.subs.now.items c.polling.subs.items c.poll_first.new.subs.items
+          (told_of c.args.board.now) (told_of c.polling.board) (told_of c.poll_first.new.board) c.polling.moved c.in-Ok.one c.polling.counter c.requires.stands.are_live.apart below c.polling.invariant.polls
+          (subst (λ (ask : TripAsk). FirstPolled c.args.book.now ask (g.L.Links.seen c.polling.links) (g.L.Links.seen c.poll_first.new.links) c.polling.subs.items c.poll_first.new.subs.items (told_of c.polling.board) (told_of c.poll_first.new.board) (Ok c.in-Ok.one)) c.polling.invariant.same_ask c.in-Ok.ensures.polled);
+    }
+
+pub returns-clause-whole : goal.returns-clause-whole
+returns-clause-whole g c =
+    let whole : length c.args.subs.now.items ≤ c.polling.counter = first_of (search rules, grind (arith, rules)) in
+    round_ends c.args.book.now (ask_of c.args.board.now) (g.L.Links.seen c.args.links.now) (g.L.Links.seen c.polling.links) c.args.subs.now.items c.polling.subs.items (told_of c.args.board.now) (told_of c.polling.board) c.polling.moved c.polling.counter whole c.polling.invariant.polls

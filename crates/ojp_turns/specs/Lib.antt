@@ -1,0 +1,7 @@
+pub mod Held
+pub mod Faults
+pub mod Polling
+pub mod Slots
+pub mod Asking
+pub mod Turning
+pub mod Searches

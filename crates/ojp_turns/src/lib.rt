@@ -1,0 +1,10 @@
+//! A search over regions, by turns: several subrequests are live at once, and just those that the search wants.
+#![tactic(auto)]
+
+pub mod asking;
+mod cancelling;
+pub mod kept;
+mod polling;
+pub mod search;
+
+pub use search::{Outcome, Search, Turn};
