@@ -1,0 +1,38 @@
+use Rattle.std.proofs.Common.{arith, rules}
+use Rattle.ojp_gateway.proofs.SeekFacts.{seeks_start, seeks_on, seeks_end, too_many}
+use Rattle.ojp_gateway.proofs.seeking.seek_paced.Goals as goal
+
+pub searching-init : goal.searching-init
+searching-init g c = record { seeks = seeks_start c.args.book.now (g.L.Links.seen c.args.links.now) c.args.search.now c.requires; counted = omega arith }
+
+pub hearing-init : goal.hearing-init
+hearing-init g c = record { seeks = c.searching.invariant.seeks; as_before = c.asks-before.ensures }
+
+pub returns-in-Some : goal.returns-in-Some
+returns-in-Some g c =
+    seeks_end c.args.book.now (g.L.Links.seen c.args.links.now) (g.L.Links.seen c.hearing.links) (g.L.Links.seen c.step_paced.new.links) c.args.search.now c.hearing.search c.step_paced.new.search c.in-Some.outcome
+    c.hearing.invariant.seeks c.in-Some.ensures
+
+pub hearing-preserved : goal.hearing-preserved
+hearing-preserved g c =
+    record {
+      seeks = seeks_on c.args.book.now (g.L.Links.seen c.args.links.now) (g.L.Links.seen c.hearing.links) (g.L.Links.seen c.step_paced.new.links) c.args.search.now c.hearing.search c.step_paced.new.search
+          c.hearing.invariant.seeks c.in-None.ensures;
+      as_before = first_of (search rules, grind (arith, rules));
+    }
+
+pub hearing-smaller : goal.hearing-smaller
+hearing-smaller g c = c.in-None.ensures.falls (first_of (search rules, grind (arith, rules)))
+
+pub searching-preserved : goal.searching-preserved
+searching-preserved g c =
+    record {
+      seeks = seeks_on c.args.book.now (g.L.Links.seen c.args.links.now) (g.L.Links.seen c.hearing.links) (g.L.Links.seen c.step_paced.new.links) c.args.search.now c.hearing.search c.step_paced.new.search
+          c.hearing.invariant.seeks c.in-None.ensures;
+      counted = first_of (search rules, grind (arith, rules));
+    }
+
+pub unreachable-requires : goal.unreachable-requires
+unreachable-requires g c =
+    let few = too_many c.args.book.now (g.L.Links.seen c.args.links.now) (g.L.Links.seen c.searching.links) c.args.search.now c.searching.search c.searching.counter c.searching.invariant.seeks c.searching.invariant.counted in
+    first_of (search rules, grind (arith, rules, few))

@@ -1,0 +1,6 @@
+pub use Rattle.ojp_turns.specs.Faults
+pub use Rattle.ojp_turns.specs.Held
+pub use Rattle.ojp_turns.specs.Searches
+pub mod Passing
+pub mod Answers
+pub mod Learning
