@@ -1,7 +1,7 @@
 //! Serves rows: each is a timetable and the body of a request, and its stored run has the responses that were
 //! worked out by hand. A row is told by its response to the body with its length, and by whether the body in
 //! one chunk, read byte by byte, has the same. Behind the word `raw` stand the lines of a head, which is the
-//! whole of what is sent.
+//! whole of what is sent; behind `fails`, the read or the write that fails, and the body.
 #![tactic(auto)]
 
 ghost use Rattle.std.specs.Prelude.{◌<◌};
@@ -11,6 +11,7 @@ use ojp_outside::{MemSink, MemSource, StdSource, read_all};
 use ojp_region::serve_one;
 use ojp_scan::Scan;
 use ojp_timetable::table::Timetable;
+use ojp_values::read_number;
 use std::alloc::Global;
 use std::process::ExitCode;
 use std::str;
@@ -45,6 +46,9 @@ fn tell(rt: &HostRuntime, row: &str) -> Option<()> {
     if let Some(head) = body.strip_prefix("raw\n") {
         return tell_end(rt, by_head(alloc, table, head)?);
     }
+    if let Some(call) = body.strip_prefix("fails ") {
+        return tell_end(rt, by_fault(alloc, table, call)?);
+    }
     let body = body.strip_suffix("\n")?;
     let (end, output) = by_length(alloc, table, body)?;
     let text = str::from_utf8(output.written()).ok()?;
@@ -68,6 +72,28 @@ fn by_head(alloc: Global, table: &str, head: &str) -> Option<(Served, MemSink)> 
         bytes.extend_from_slice(b"\r\n").ok()?;
     }
     served(alloc, table, bytes.as_slice(), 1)
+}
+
+/// How a body was served in reads of at most 100 bytes where a call fails, which the first line names as `read 2`
+/// or `write 1`, and what was written.
+fn by_fault(alloc: Global, table: &str, row: &str) -> Option<(Served, MemSink)> {
+    let (call, body) = row.split_once("\n")?;
+    let (of, number) = call.split_once(" ")?;
+    let mut failing = Vec::new(alloc);
+    failing
+        .push(u64::from(read_number(number.as_bytes())?))
+        .ok()?;
+    let (reads, writes) = match of {
+        "read" => (failing, Vec::new(alloc)),
+        "write" => (Vec::new(alloc), failing),
+        _ => return None,
+    };
+    let bytes = request(alloc, b"AA", body.strip_suffix("\n")?.as_bytes()).ok()?;
+    let bytes = Vec::from_slice(alloc, bytes.as_slice()).ok()?;
+    let mut input = MemSource::new(bytes, 100, reads);
+    let mut output = MemSink::new(alloc, writes);
+    let served = served_by(alloc, table, &mut input, &mut output)?;
+    Some((served, output))
 }
 
 /// How the body with its length was served, and what was written.
