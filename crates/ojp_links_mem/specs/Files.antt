@@ -4,6 +4,7 @@ use Rattle.std.specs.List.{count_by}
 use Rattle.ojp_outside.specs.Causes.{Rose}
 use Rattle.ojp_outside.specs.Files.{IsContents}
 use Rattle.ojp_outside.specs.Seen.{StoreView}
+use Rattle.ojp_outside.specs.declared.store.TheConstants.{FILE_LIMIT}
 use Rattle.ojp_values.specs.Texts.{Text, same, text_lt}
 use Rattle.ojp_timetable.specs.Tables.{Timetable}
 use Rattle.ojp_timetable.specs.TableText.{IsText, IsRefused}
@@ -26,15 +27,11 @@ pub record FilesView : Type 0 where
 
 -- ---- a timetable of a store
 
--- the most bytes of a file
-abbrev pub file_limit : ℕ
-file_limit = 16777216
-
 -- the file, where the store tells its contents, is the text of the timetable, and no read failed
 pub record IsFileOf (file : Text) (old new : StoreView) (table : Timetable) : Type 0 where
   pub bytes : Text
   pub held : IsContents old.contents file bytes
-  pub within : length bytes ≤ file_limit
+  pub within : length bytes ≤ FILE_LIMIT
   pub is_text : IsText bytes table
   pub same : new ≡ old
 
@@ -46,14 +43,14 @@ pub record FailsToRead (file : Text) (old new : StoreView) : Type 0 where
 
 -- the file is there and has more bytes than a file may have, where the store tells its files
 pub record IsTooLong (file : Text) (old new : StoreView) : Type 0 where
-  pub above : IfSome old.contents (λ files. IsSomeAnd (files file) (λ bytes. file_limit < length bytes))
+  pub above : IfSome old.contents (λ files. IsSomeAnd (files file) (λ bytes. FILE_LIMIT < length bytes))
   pub same : new ≡ old
 
 -- the file, where the store tells its contents, is refused at the line for the reason
 pub record IsRefusedFile (file : Text) (old new : StoreView) (line : ℕ) (reason : TableReason) : Type 0 where
   pub bytes : Text
   pub held : IsContents old.contents file bytes
-  pub within : length bytes ≤ file_limit
+  pub within : length bytes ≤ FILE_LIMIT
   pub refused : IsRefused bytes line reason
   pub same : new ≡ old
 
