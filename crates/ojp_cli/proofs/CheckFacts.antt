@@ -2,13 +2,13 @@
 use Rattle.std.proofs.Common.{◌≡◌, ℕ, ◌⊎◌, Result, Ok, Err, inl, inr}
 use Rattle.ojp_grammar.specs.declared.refusals.Want.TheVariants.{Either}
 use Rattle.ojp_outside.specs.Seen.{SourceView, SinkView}
-use Rattle.ojp_cli.specs.Lent.{Lent, before, after}
+use Rattle.ojp_steps.specs.Lent.{Lent, before, after}
 use Rattle.ojp_cli.specs.Checks.{Checked, CheckFails, CheckIsDue, no_document, a_name}
-use Rattle.ojp_cli.specs.Runs.{Ends, Concludes}
-use Rattle.ojp_cli.specs.declared.failures.Failure.{Failure}
-use Rattle.ojp_cli.specs.declared.failures.Failure.TheVariants.{Document, Words, Unread, TooLong, Input, Output, Memory, Line, Doors}
-use Rattle.ojp_cli.proofs.FileFacts.{rests_or_rose}
-use Rattle.ojp_cli.proofs.InputFacts.{reads, spelled_or_refused, refused_or_spelled}
+use Rattle.ojp_steps.specs.Endings.{Ends, Concludes}
+use Rattle.ojp_steps.specs.declared.failures.Failure.{Failure}
+use Rattle.ojp_steps.specs.declared.failures.Failure.TheVariants.{Document, Words, Unread, TooLong, Input, Output, Memory, Line, Twice, TooMany, Disagree, Region, Doors}
+use Rattle.ojp_steps.proofs.FileFacts.{rests_or_rose}
+use Rattle.ojp_steps.proofs.InputFacts.{reads, spelled_or_refused, refused_or_spelled}
 
 module _ {I O : Type 0} (input : Lent I SourceView) (output : Lent O SinkView) where
   pub due_to_check : {E : Type 0} (ended : Result (Unit {0}) Failure) (faults : Lent E SinkView) (result status : ℕ)
@@ -17,6 +17,10 @@ module _ {I O : Type 0} (input : Lent I SourceView) (output : Lent O SinkView) w
   due_to_check (Ok nothing) faults result status e c (no_document bytes heard at reason refused) = absurd (spelled_or_refused Either input bytes heard e.doc at reason e.of_input refused)
   due_to_check (Err (Document place cause)) faults result status e c (no_document bytes heard at reason refused) = inr c.0
   due_to_check (Err Words) faults result status e c (no_document bytes heard at reason refused) = absurd e
+  due_to_check (Err (Twice code)) faults result status e c (no_document bytes heard at reason refused) = absurd e
+  due_to_check (Err TooMany) faults result status e c (no_document bytes heard at reason refused) = absurd e
+  due_to_check (Err (Disagree point left right)) faults result status e c (no_document bytes heard at reason refused) = absurd e
+  due_to_check (Err (Region code)) faults result status e c (no_document bytes heard at reason refused) = absurd e
   due_to_check (Err Doors) faults result status e c (no_document bytes heard at reason refused) = absurd e
   due_to_check (Err (Unread name)) faults result status e c (no_document bytes heard at reason refused) = absurd e
   due_to_check (Err (TooLong name)) faults result status e c (no_document bytes heard at reason refused) = absurd e
@@ -28,6 +32,10 @@ module _ {I O : Type 0} (input : Lent I SourceView) (output : Lent O SinkView) w
   due_to_check (Err (Document place cause)) faults result status e c (a_name bytes heard doc wanted spells rests) =
       absurd (refused_or_spelled Either input bytes heard doc place cause e.0 wanted spells)
   due_to_check (Err Words) faults result status e c (a_name bytes heard doc wanted spells rests) = absurd e
+  due_to_check (Err (Twice code)) faults result status e c (a_name bytes heard doc wanted spells rests) = absurd e
+  due_to_check (Err TooMany) faults result status e c (a_name bytes heard doc wanted spells rests) = absurd e
+  due_to_check (Err (Disagree point left right)) faults result status e c (a_name bytes heard doc wanted spells rests) = absurd e
+  due_to_check (Err (Region code)) faults result status e c (a_name bytes heard doc wanted spells rests) = absurd e
   due_to_check (Err Doors) faults result status e c (a_name bytes heard doc wanted spells rests) = absurd e
   due_to_check (Err (Unread name)) faults result status e c (a_name bytes heard doc wanted spells rests) = absurd e
   due_to_check (Err (TooLong name)) faults result status e c (a_name bytes heard doc wanted spells rests) = absurd e

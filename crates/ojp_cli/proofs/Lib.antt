@@ -1,9 +1,5 @@
-pub mod PieceFacts
-pub mod FileFacts
-pub mod InputFacts
 pub mod PlanFacts
 pub mod CheckFacts
 pub mod RunFacts
-pub mod ServingFacts
 pub mod RegionFacts
 pub mod WordFacts

@@ -2,18 +2,18 @@
 use Rattle.std.proofs.Common.{◌≡◌, ℕ, ◌⊎◌, Option, Result, Ok, Err, inl, inr}
 use Rattle.ojp_values.specs.Texts.{Text}
 use Rattle.ojp_outside.specs.Seen.{SinkView, StoreView}
-use Rattle.ojp_cli.specs.Lent.{Lent, before, after}
+use Rattle.ojp_steps.specs.Lent.{Lent, before, after}
 use Rattle.ojp_grammar.specs.Answering.{AnswersBody}
 use Rattle.ojp_timetable.specs.Answers.{RegionAnswers}
 use Rattle.ojp_timetable.specs.Tables.{Timetable}
-use Rattle.ojp_cli.specs.Files.{IsFileOf}
-use Rattle.ojp_cli.specs.Serving.{DoorsSeen, ServesAt}
-use Rattle.ojp_cli.specs.declared.serving.NotServed.TheVariants as servings
+use Rattle.ojp_steps.specs.Files.{IsFileOf}
+use Rattle.ojp_steps.specs.Serving.{DoorsSeen, ServesAt}
+use Rattle.ojp_steps.specs.declared.serving.NotServed.TheVariants as servings
 use Rattle.ojp_cli.specs.Regions.{RegionServed, RegionFails, RegionIsDue, too_long, no_table, all_served}
-use Rattle.ojp_cli.specs.Runs.{Ends, Concludes}
-use Rattle.ojp_cli.specs.declared.failures.Failure.{Failure}
-use Rattle.ojp_cli.specs.declared.failures.Failure.TheVariants.{Document, Words, Unread, TooLong, Input, Output, Memory, Line, Doors}
-use Rattle.ojp_cli.proofs.FileFacts.{rests_or_rose, opens, long_or_short, within_limit, refused_within, accepted_or_refused, refused_or_accepted}
+use Rattle.ojp_steps.specs.Endings.{Ends, Concludes}
+use Rattle.ojp_steps.specs.declared.failures.Failure.{Failure}
+use Rattle.ojp_steps.specs.declared.failures.Failure.TheVariants.{Document, Words, Unread, TooLong, Input, Output, Memory, Line, Twice, TooMany, Disagree, Region, Doors}
+use Rattle.ojp_steps.proofs.FileFacts.{rests_or_rose, opens, long_or_short, within_limit, refused_within, accepted_or_refused, refused_or_accepted}
 
 module _ {F O D : Type 0} (file : Text) (port : ℕ) (count : Option ℕ) (store : Lent F StoreView) (output : Lent O SinkView) (doors : Lent D DoorsSeen) where
   -- the doors could not listen, or gave no connection
@@ -29,6 +29,10 @@ module _ {F O D : Type 0} (file : Text) (port : ℕ) (count : Option ℕ) (store
   due_to_region (Ok nothing) faults result status e c (too_long bytes r long) = absurd (within_limit file store bytes r e.table e.of_file long)
   due_to_region (Err (Document at reason)) faults result status e c (too_long bytes r long) = absurd e
   due_to_region (Err Words) faults result status e c (too_long bytes r long) = absurd e
+  due_to_region (Err (Twice code)) faults result status e c (too_long bytes r long) = absurd e
+  due_to_region (Err TooMany) faults result status e c (too_long bytes r long) = absurd e
+  due_to_region (Err (Disagree point left right)) faults result status e c (too_long bytes r long) = absurd e
+  due_to_region (Err (Region code)) faults result status e c (too_long bytes r long) = absurd e
   due_to_region (Err (Unread name)) faults result status e c (too_long bytes r long) = absurd (opens file store bytes r e.1)
   due_to_region (Err (TooLong name)) faults result status e c (too_long bytes r long) = inr c.0
   due_to_region (Err Input) faults result status e c (too_long bytes r long) = absurd e
@@ -41,6 +45,10 @@ module _ {F O D : Type 0} (file : Text) (port : ℕ) (count : Option ℕ) (store
   due_to_region (Ok nothing) faults result status e c (no_table bytes r short n why refused) = absurd (accepted_or_refused file store bytes r e.table n why e.of_file refused)
   due_to_region (Err (Document at reason)) faults result status e c (no_table bytes r short n why refused) = absurd e
   due_to_region (Err Words) faults result status e c (no_table bytes r short n why refused) = absurd e
+  due_to_region (Err (Twice code)) faults result status e c (no_table bytes r short n why refused) = absurd e
+  due_to_region (Err TooMany) faults result status e c (no_table bytes r short n why refused) = absurd e
+  due_to_region (Err (Disagree point left right)) faults result status e c (no_table bytes r short n why refused) = absurd e
+  due_to_region (Err (Region code)) faults result status e c (no_table bytes r short n why refused) = absurd e
   due_to_region (Err (Unread name)) faults result status e c (no_table bytes r short n why refused) = absurd (opens file store bytes r e.1)
   due_to_region (Err (TooLong name)) faults result status e c (no_table bytes r short n why refused) = absurd (long_or_short file store bytes r e.1 short)
   due_to_region (Err Input) faults result status e c (no_table bytes r short n why refused) = absurd e
@@ -53,6 +61,10 @@ module _ {F O D : Type 0} (file : Text) (port : ℕ) (count : Option ℕ) (store
   due_to_region (Ok nothing) faults result status e c (all_served table good rests stands) = inr c.0
   due_to_region (Err (Document at reason)) faults result status e c (all_served table good rests stands) = absurd e
   due_to_region (Err Words) faults result status e c (all_served table good rests stands) = absurd e
+  due_to_region (Err (Twice code)) faults result status e c (all_served table good rests stands) = absurd e
+  due_to_region (Err TooMany) faults result status e c (all_served table good rests stands) = absurd e
+  due_to_region (Err (Disagree point left right)) faults result status e c (all_served table good rests stands) = absurd e
+  due_to_region (Err (Region code)) faults result status e c (all_served table good rests stands) = absurd e
   due_to_region (Err (Unread name)) faults result status e c (all_served table good rests stands) = absurd (opens file store good.bytes good.readable e.1)
   due_to_region (Err (TooLong name)) faults result status e c (all_served table good rests stands) = absurd (long_or_short file store good.bytes good.readable e.1 good.within)
   due_to_region (Err Input) faults result status e c (all_served table good rests stands) = absurd e

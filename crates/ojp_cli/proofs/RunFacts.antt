@@ -1,24 +1,20 @@
 -- How a run ends by how its command ended.
-use Rattle.std.proofs.Common.{◌≡◌, ℕ, ◌⊎◌, [], Option, Some, Result, Ok, Err, inl, inr, sym, ◌∙◌, subst}
+use Rattle.std.proofs.Common.{◌≡◌, ℕ, ◌⊎◌, Option, Some, Result, inl, inr, sym, ◌∙◌, subst}
 use Rattle.ojp_values.specs.Texts.{Text}
 use Rattle.ojp_outside.specs.Seen.{SourceView, SinkView, StoreView}
-use Rattle.ojp_cli.specs.Lent.{Lent, IsUnused}
+use Rattle.ojp_steps.specs.Lent.{Lent, IsUnused}
 use Rattle.ojp_cli.specs.Words.{Command, Plan, Check, Region}
-use Rattle.ojp_cli.specs.Runs.{Ends, Concludes, EndsAs, IsDue, AreNumbers, RunsNetAs, IsNetDue}
+use Rattle.ojp_steps.specs.Endings.{Ends, Concludes}
+use Rattle.ojp_steps.proofs.EndFacts.{ends_as}
+use Rattle.ojp_cli.specs.Runs.{IsDue, AreNumbers, RunsNetAs, IsNetDue}
 use Rattle.ojp_cli.specs.Plans.{Planned, PlanFails}
 use Rattle.ojp_cli.specs.Checks.{Checked, CheckFails}
-use Rattle.ojp_cli.specs.Serving.{DoorsSeen}
+use Rattle.ojp_steps.specs.Serving.{DoorsSeen}
 use Rattle.ojp_cli.specs.Regions.{RegionServed, RegionFails}
 use Rattle.ojp_cli.proofs.PlanFacts.{due_to_plan}
 use Rattle.ojp_cli.proofs.CheckFacts.{due_to_check}
 use Rattle.ojp_cli.proofs.RegionFacts.{due_to_region}
-use Rattle.ojp_cli.specs.declared.failures.Failure.{Failure}
-
--- a command that told no trace
-pub ends_as : {E : Type 0} (done : Type 0) (cause : Failure → Type 0) (ended : Result (Unit {0}) Failure) (faults : Lent E SinkView) (status : ℕ)
-    → Ends done cause ended → Concludes ended faults status → EndsAs [] done cause faults status
-ends_as done cause (Ok nothing) faults status e c = inl (c.0, e, c.1)
-ends_as done cause (Err failure) faults status e c = inr (failure, c.0, e, c.1)
+use Rattle.ojp_steps.specs.declared.failures.Failure.{Failure}
 
 -- the status that is due to `plan`
 pub due_if_plan : {I O E F : Type 0} (named : Option Command) (file : Text) (input : Lent I SourceView) (output : Lent O SinkView) (faults : Lent E SinkView) (store : Lent F StoreView)

@@ -13,11 +13,11 @@ use Rattle.ojp_grammar.specs.Places.{IsRefused}
 use Rattle.ojp_grammar.specs.declared.refusals.Reason.{Reason}
 use Rattle.ojp_grammar.specs.declared.refusals.Want.TheVariants.{Either}
 use Rattle.ojp_outside.specs.Seen.{SourceView, SinkView}
-use Rattle.ojp_cli.specs.Lent.{Lent, before, after, IsUnused, Gains, GainsInPart}
-use Rattle.ojp_cli.specs.Inputs.{IsDocumentOf, IsNoDocument, FailsToRead, IsReadInPart, IsHeard}
-use Rattle.ojp_cli.specs.Failures.{line_of}
-use Rattle.ojp_cli.specs.declared.failures.Failure.{Failure}
-use Rattle.ojp_cli.specs.declared.failures.Failure.TheVariants.{Document, Words, Unread, TooLong, Input, Output, Memory, Line, Doors}
+use Rattle.ojp_steps.specs.Lent.{Lent, before, after, IsUnused, Gains, GainsInPart}
+use Rattle.ojp_steps.specs.Inputs.{IsDocumentOf, IsNoDocument, FailsToRead, IsReadInPart, IsHeard}
+use Rattle.ojp_steps.specs.Failures.{line_of}
+use Rattle.ojp_steps.specs.declared.failures.Failure.{Failure}
+use Rattle.ojp_steps.specs.declared.failures.Failure.TheVariants.{Document, Input, Output, Memory}
 
 abbrev pub ask_name : Ask → Text
 ask_name (asks.Trip ask) = codes "OJPTripRequest"
@@ -51,14 +51,10 @@ pub record CheckedInPart {I O : Type 0} (input : Lent I SourceView) (output : Le
 -- why `check` fails, and what it leaves alone then
 abbrev pub CheckFails : {I O : Type 0} → Lent I SourceView → Lent O SinkView → Failure → Type 0
 CheckFails input output (Document at reason) = IsNoDocument Either input at reason × IsUnused output
-CheckFails input output Words = ⊥
-CheckFails input output (Unread name) = ⊥
-CheckFails input output (TooLong name) = ⊥
 CheckFails input output Input = FailsToRead input × IsUnused output
 CheckFails input output Output = CheckedInPart input output
 CheckFails input output Memory = IsReadInPart input × IsUnused output
-CheckFails input output (Line name line reason) = ⊥
-CheckFails input output Doors = ⊥
+CheckFails input output failure = ⊥
 
 -- the status that is due where the input tells its bytes and no count rose
 pub data CheckIsDue {I O : Type 0} (input : Lent I SourceView) (output : Lent O SinkView) : ℕ → Type 0 where

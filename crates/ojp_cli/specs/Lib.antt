@@ -1,13 +1,7 @@
 pub mod Answered
 pub mod Words
 pub mod Commands
-pub mod Lent
-pub mod Failures
-pub mod Inputs
-pub mod Pieces
-pub mod Files
 pub mod Plans
 pub mod Checks
-pub mod Serving
 pub mod Regions
 pub mod Runs

@@ -15,11 +15,11 @@ use Rattle.ojp_grammar.specs.declared.refusals.Reason.{Reason}
 use Rattle.ojp_grammar.specs.declared.refusals.Want.TheVariants as wants
 use Rattle.ojp_cli.specs.Answered.{Answered}
 use Rattle.ojp_outside.specs.Seen.{SourceView, SinkView, StoreView}
-use Rattle.ojp_cli.specs.Lent.{Lent, before, after, IsUnused, Gains, GainsInPart}
-use Rattle.ojp_cli.specs.Inputs.{IsDocumentOf, IsNoDocument, FailsToRead, IsReadInPart, IsHeard}
-use Rattle.ojp_cli.specs.Files.{StandsAsBefore, IsFileOf, IsAccepted, FailsToOpen, IsTooLong, IsRefusedFile, IsReadable, IsGood}
-use Rattle.ojp_cli.specs.declared.failures.Failure.{Failure}
-use Rattle.ojp_cli.specs.declared.failures.Failure.TheVariants.{Document, Words, Unread, TooLong, Input, Output, Memory, Line, Doors}
+use Rattle.ojp_steps.specs.Lent.{Lent, before, after, IsUnused, Gains, GainsInPart}
+use Rattle.ojp_steps.specs.Inputs.{IsDocumentOf, IsNoDocument, FailsToRead, IsReadInPart, IsHeard}
+use Rattle.ojp_steps.specs.Files.{StandsAsBefore, IsFileOf, IsAccepted, FailsToOpen, IsTooLong, IsRefusedFile, IsReadable, IsGood}
+use Rattle.ojp_steps.specs.declared.failures.Failure.{Failure}
+use Rattle.ojp_steps.specs.declared.failures.Failure.TheVariants.{Document, Unread, TooLong, Input, Output, Memory, Line}
 
 -- the text is the document of a delivery that answers the ask by the timetable
 pub record AnswersAs (table : Timetable) (ask : Ask) (text : Text) : Type 0 where
@@ -50,14 +50,13 @@ pub record PlannedInPart {F I O : Type 0} (file : Text) (store : Lent F StoreVie
 -- why `plan` fails, and what it leaves alone then: each step before the one that failed was passed, and none comes behind it
 abbrev pub PlanFails : {F I O : Type 0} → Text → Lent F StoreView → Lent I SourceView → Lent O SinkView → Failure → Type 0
 PlanFails file store input output (Document at reason) = IsAccepted file store × IsNoDocument wants.Request input at reason × IsUnused output
-PlanFails file store input output Words = ⊥
 PlanFails file store input output (Unread name) = (name.now ≡ file) × FailsToOpen file store × IsUnused input × IsUnused output
 PlanFails file store input output (TooLong name) = (name.now ≡ file) × IsTooLong file store × IsUnused input × IsUnused output
 PlanFails file store input output Input = IsAccepted file store × FailsToRead input × IsUnused output
 PlanFails file store input output Output = PlannedInPart file store input output
 PlanFails file store input output Memory = StandsAsBefore store × IsReadInPart input × IsUnused output
 PlanFails file store input output (Line name line reason) = (name.now ≡ file) × IsRefusedFile file store line reason × IsUnused input × IsUnused output
-PlanFails file store input output Doors = ⊥
+PlanFails file store input output failure = ⊥
 
 -- the status that is due where file and input tell their bytes and no count rose
 pub data PlanIsDue {F I O : Type 0} (file : Text) (store : Lent F StoreView) (input : Lent I SourceView) (output : Lent O SinkView) : ℕ → Type 0 where

@@ -9,11 +9,11 @@ use Rattle.ojp_timetable.specs.TableText.{IsRefused as IsTableRefused}
 use Rattle.ojp_timetable.specs.declared.lines.TableReason.{TableReason}
 use Rattle.ojp_grammar.specs.Answering.{AnswersBody}
 use Rattle.ojp_timetable.specs.Answers.{RegionAnswers}
-use Rattle.ojp_cli.specs.Lent.{Lent, before, after, IsUnused, Gains, GainsInPart}
-use Rattle.ojp_cli.specs.Files.{StandsAsBefore, IsFileOf, IsAccepted, FailsToOpen, IsTooLong, IsRefusedFile, IsReadable, IsGood}
-use Rattle.ojp_cli.specs.Serving.{DoorsSeen, DoorsRest, ready, Listens, FailsToListen, ServesAll, ServesInPart}
-use Rattle.ojp_cli.specs.declared.failures.Failure.{Failure}
-use Rattle.ojp_cli.specs.declared.failures.Failure.TheVariants.{Document, Words, Unread, TooLong, Input, Output, Memory, Line, Doors}
+use Rattle.ojp_steps.specs.Lent.{Lent, before, after, IsUnused, Gains, GainsInPart}
+use Rattle.ojp_steps.specs.Files.{StandsAsBefore, IsFileOf, IsAccepted, FailsToOpen, IsTooLong, IsRefusedFile, IsReadable, IsGood}
+use Rattle.ojp_steps.specs.Serving.{DoorsSeen, DoorsRest, ready, Listens, FailsToListen, ServesAll, ServesInPart}
+use Rattle.ojp_steps.specs.declared.failures.Failure.{Failure}
+use Rattle.ojp_steps.specs.declared.failures.Failure.TheVariants.{Unread, TooLong, Output, Memory, Line, Doors}
 
 -- `ready` was written as a line, and then all connections were served by the timetable of the file
 pub record RegionServed {F O D : Type 0} (file : Text) (port : ℕ) (count : Option ℕ) (store : Lent F StoreView) (output : Lent O SinkView) (doors : Lent D DoorsSeen) : Type 0 where
@@ -31,17 +31,15 @@ pub record RegionServedInPart {F O D : Type 0} (file : Text) (port : ℕ) (count
 
 -- why `region` fails, and what it leaves alone then; want of memory comes before the doors are asked to listen
 abbrev pub RegionFails : {F O D : Type 0} → Text → ℕ → Option ℕ → Lent F StoreView → Lent O SinkView → Lent D DoorsSeen → Failure → Type 0
-RegionFails file port count store output doors (Document at reason) = ⊥
-RegionFails file port count store output doors Words = ⊥
 RegionFails file port count store output doors (Unread name) = (name.now ≡ file) × FailsToOpen file store × IsUnused output × IsUnused doors
 RegionFails file port count store output doors (TooLong name) = (name.now ≡ file) × IsTooLong file store × IsUnused output × IsUnused doors
-RegionFails file port count store output doors Input = ⊥
 RegionFails file port count store output doors Output = IsAccepted file store × GainsInPart output ready × Listens port count doors
 RegionFails file port count store output doors Memory = StandsAsBefore store × IsUnused output × IsUnused doors
 RegionFails file port count store output doors (Line name line reason) =
     (name.now ≡ file) × IsRefusedFile file store line reason × IsUnused output × IsUnused doors
 RegionFails file port count store output doors Doors =
     (IsAccepted file store × FailsToListen port count doors × IsUnused output) ⊎ RegionServedInPart file port count store output doors
+RegionFails file port count store output doors failure = ⊥
 
 -- the status that is due where the file is told and no count rose
 pub data RegionIsDue {F O D : Type 0} (file : Text) (store : Lent F StoreView) (output : Lent O SinkView) (doors : Lent D DoorsSeen) : ℕ → Type 0 where

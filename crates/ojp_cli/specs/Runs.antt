@@ -1,32 +1,16 @@
 -- How a top call runs the command of its words: what was done, with its status and its line.
-use Rattle.std.specs.Prelude.{◌≡◌, ℕ, [], ◌++◌, ◌⊎◌, Option, Some, None, Result, Ok, Err}
+use Rattle.std.specs.Prelude.{◌≡◌, ℕ, [], ◌⊎◌, Option, Some, None}
 use Rattle.ojp_values.specs.Texts.{Text}
 use Rattle.ojp_outside.specs.Seen.{SourceView, SinkView, StoreView}
-use Rattle.ojp_cli.specs.Lent.{Lent, IsUnused, Tells, TellsTrace}
+use Rattle.ojp_steps.specs.Lent.{Lent, IsUnused, Tells}
+use Rattle.ojp_steps.specs.Endings.{EndsAs}
 use Rattle.ojp_cli.specs.Words.{Command, Plan, Check, Region, IsPort, IsCount}
-use Rattle.ojp_cli.specs.Failures.{status_of, text_of, line_of}
+use Rattle.ojp_steps.specs.Failures.{status_of, text_of, line_of}
 use Rattle.ojp_cli.specs.Plans.{Planned, PlanFails, PlanIsDue}
 use Rattle.ojp_cli.specs.Checks.{Checked, CheckFails, CheckIsDue}
-use Rattle.ojp_cli.specs.Serving.{DoorsSeen}
+use Rattle.ojp_steps.specs.Serving.{DoorsSeen}
 use Rattle.ojp_cli.specs.Regions.{RegionServed, RegionFails, RegionIsDue}
-use Rattle.ojp_cli.specs.declared.failures.Failure.{Failure}
-use Rattle.ojp_cli.specs.declared.failures.Failure.TheVariants as failures
-
--- a command did what it is to do, or failed for a cause
-abbrev pub Ends : Type 0 → (Failure → Type 0) → Result (Unit {0}) Failure → Type 0
-Ends done cause (Ok nothing) = done
-Ends done cause (Err failure) = cause failure
-
--- the status of a command that ended so, and the line of its failure
-abbrev pub Concludes : {E : Type 0} → Result (Unit {0}) Failure → Lent E SinkView → ℕ → Type 0
-Concludes (Ok nothing) faults status = (status ≡ 0) × IsUnused faults
-Concludes (Err failure) faults status = (status ≡ status_of failure) × Tells faults (line_of (text_of failure))
-
--- with status 0 all was done, and standard error has the trace; with another a failure has its cause, and its line stands behind the trace
-abbrev pub EndsAs : {E : Type 0} → Text → Type 0 → (Failure → Type 0) → Lent E SinkView → ℕ → Type 0
-EndsAs trace done cause faults status =
-    ((status ≡ 0) × done × TellsTrace faults trace)
-    ⊎ ((failure : Failure) × (status ≡ status_of failure) × cause failure × Tells faults (trace ++ line_of (text_of failure)))
+use Rattle.ojp_steps.specs.declared.failures.Failure.TheVariants as failures
 
 -- the words were refused, and nothing else was done
 pub record RefusesWords {I O E F : Type 0} (input : Lent I SourceView) (output : Lent O SinkView) (faults : Lent E SinkView) (store : Lent F StoreView) (status : ℕ) : Type 0 where

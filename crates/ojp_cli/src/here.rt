@@ -1,15 +1,15 @@
 //! The top call of the commands that wait for nobody.
 
 ghost use Rattle.std.specs.Prelude.{◌≡◌, ◌⊎◌, ℕ};
-ghost use Rattle.ojp_cli.specs.Lent.{lent};
+ghost use Rattle.ojp_steps.specs.Lent.{lent};
 ghost use Rattle.ojp_cli.specs.Words.{named_by};
 ghost use Rattle.ojp_cli.specs.Runs.{RunsAs, IsDue};
 
 use crate::commands::check::check;
 use crate::commands::plan::plan;
-use crate::failures::{Failure, conclude};
 use crate::words::{Command, read_words};
 use ojp_outside::{Sink, Source, Store};
+use ojp_steps::failures::{Failure, conclude};
 use std::alloc::Global;
 
 /// Runs the command of the words, and gives the exit status. It waits for nobody.
@@ -41,9 +41,9 @@ pub fn run_here<I: Source, O: Sink, E: Sink, F: Store>(
         status → (result ≡ 5) ⊎ (result ≡ status) }
 {
     match read_words(words) {
-        None => conclude(Err(Failure::Words), faults),
-        Some(Command::Plan(file)) => conclude(plan(alloc, file, input, output, store), faults),
-        Some(Command::Check) => conclude(check(alloc, input, output), faults),
-        Some(Command::Region(_)) => conclude(Err(Failure::Words), faults),
+        None => conclude(&Err(Failure::Words), faults),
+        Some(Command::Plan(file)) => conclude(&plan(alloc, file, input, output, store), faults),
+        Some(Command::Check) => conclude(&check(alloc, input, output), faults),
+        Some(Command::Region(_)) => conclude(&Err(Failure::Words), faults),
     }
 }

@@ -2,14 +2,9 @@
 #![tactic(auto)]
 
 mod commands;
-mod failures;
-mod files;
 mod here;
-mod input;
 mod net;
-mod serving;
 mod words;
 
-pub use failures::Failure;
 pub use here::run_here;
 pub use net::run_region;

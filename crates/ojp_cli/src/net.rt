@@ -1,15 +1,15 @@
 //! The top call of the commands that may wait.
 
 ghost use Rattle.std.specs.Prelude.{◌≡◌, ◌⊎◌, ℕ, false};
-ghost use Rattle.ojp_cli.specs.Lent.{lent};
+ghost use Rattle.ojp_steps.specs.Lent.{lent};
 ghost use Rattle.ojp_cli.specs.Words.{named_by};
 ghost use Rattle.ojp_cli.specs.Runs.{RunsNetAs, IsNetDue};
-ghost use Rattle.ojp_cli.specs.Serving.{seen_as};
+ghost use Rattle.ojp_steps.specs.Serving.{seen_as};
 
 use crate::commands::region::{listening_of, region};
-use crate::failures::{Failure, conclude};
 use crate::words::{Command, read_words};
 use ojp_outside::{Doors, Sink, Source, Store};
+use ojp_steps::failures::{Failure, conclude};
 use std::alloc::Global;
 use std::net::Net;
 use std::sync::Wait;
@@ -40,13 +40,13 @@ pub fn run_region<R: Wait + Net, I: Source, O: Sink, E: Sink, F: Store, D: Doors
     match read_words(words) {
         Some(Command::Region(words)) => match listening_of(words.port, words.count) {
             Some(listening) => conclude(
-                region(rt, alloc, words.file, listening, output, store, doors),
+                &region(rt, alloc, words.file, listening, output, store, doors),
                 faults,
             ),
-            None => conclude(Err(Failure::Words), faults),
+            None => conclude(&Err(Failure::Words), faults),
         },
-        Some(Command::Plan(_)) => conclude(Err(Failure::Words), faults),
-        Some(Command::Check) => conclude(Err(Failure::Words), faults),
-        None => conclude(Err(Failure::Words), faults),
+        Some(Command::Plan(_)) => conclude(&Err(Failure::Words), faults),
+        Some(Command::Check) => conclude(&Err(Failure::Words), faults),
+        None => conclude(&Err(Failure::Words), faults),
     }
 }

@@ -1,14 +1,14 @@
 //! The command `check`: which document the input is.
 
 ghost use Rattle.std.specs.Prelude.{◌≡◌};
-ghost use Rattle.ojp_cli.specs.Lent.{lent};
-ghost use Rattle.ojp_cli.specs.Runs.{Ends};
+ghost use Rattle.ojp_steps.specs.Lent.{lent};
+ghost use Rattle.ojp_steps.specs.Endings.{Ends};
 ghost use Rattle.ojp_cli.specs.Checks.{ask_name, delivery_name, element_name, Checked, CheckFails};
 
-use crate::failures::Failure;
-use crate::input::{failure_of, read_document};
 use ojp_grammar::refusals::Want;
 use ojp_outside::{Sink, Source, WriteFault, put_parts};
+use ojp_steps::failures::Failure;
+use ojp_steps::input::{failure_of, read_document};
 use ojp_values::{Ask, Delivery, Doc};
 use std::alloc::Global;
 

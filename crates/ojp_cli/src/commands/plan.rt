@@ -1,20 +1,17 @@
 //! The command `plan`: one timetable, one request, one delivery.
 
 ghost use Rattle.std.specs.Prelude.{◌≡◌, IfOk, Ok, Err};
-ghost use Rattle.ojp_grammar.specs.declared.refusals.Want.TheVariants as wants;
-ghost use Rattle.ojp_cli.specs.Lent.{lent};
-ghost use Rattle.ojp_cli.specs.Runs.{Ends};
-ghost use Rattle.ojp_cli.specs.Inputs.{ReadsAsk};
+ghost use Rattle.ojp_steps.specs.Lent.{lent};
+ghost use Rattle.ojp_steps.specs.Endings.{Ends};
 ghost use Rattle.ojp_cli.specs.Plans.{AnswersAs, Planned, PlanFails};
 
 use crate::commands::answering::plan_answer;
-use crate::failures::Failure;
-use crate::files::{self, read_table};
-use crate::input::{self, InputRefused, read_document};
 use ojp_encode::write;
-use ojp_grammar::refusals::Want;
 use ojp_outside::{MemSink, Sink, Source, Store, WriteFault, put_all};
 use ojp_scan::Scan;
+use ojp_steps::failures::Failure;
+use ojp_steps::files::{self, read_table};
+use ojp_steps::input::{self, read_request};
 use ojp_timetable::table::Timetable;
 use ojp_values::{Ask, Doc, NoMemory};
 use std::alloc::Global;
@@ -47,16 +44,6 @@ pub(crate) fn plan<'a, I: Source, O: Sink, F: Store>(
     match put_all(output, text.written()) {
         Ok(()) => Ok(()),
         Err(WriteFault) => Err(Failure::Output),
-    }
-}
-
-fn read_request<I: Source>(alloc: Global, input: &mut I) -> Result<Ask, InputRefused>
-    ensures { ReadsAsk (lent I.seen input.old input.new) result }
-{
-    match read_document(alloc, Want::Request, input) {
-        Ok(Doc::Ask(ask)) => Ok(ask),
-        Ok(Doc::Delivery(_)) => unreachable!(),
-        Err(refused) => Err(refused),
     }
 }
 

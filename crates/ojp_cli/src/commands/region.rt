@@ -1,17 +1,18 @@
 //! The command `region`: one timetable, served at a port.
 
 ghost use Rattle.std.specs.Prelude.{◌≡◌, ℕ, Option, Some, None, false, Ok, Err, MatchOption};
-ghost use Rattle.ojp_cli.specs.Lent.{lent};
+ghost use Rattle.ojp_steps.specs.Lent.{lent};
 ghost use Rattle.ojp_cli.specs.Commands.{text_in};
-ghost use Rattle.ojp_cli.specs.Runs.{Ends, AreNumbers};
-ghost use Rattle.ojp_cli.specs.Serving.{seen_as};
+ghost use Rattle.ojp_cli.specs.Runs.{AreNumbers};
+ghost use Rattle.ojp_steps.specs.Endings.{Ends};
+ghost use Rattle.ojp_steps.specs.Serving.{seen_as};
 ghost use Rattle.ojp_cli.specs.Regions.{RegionServed, RegionFails};
 
-use crate::failures::Failure;
-use crate::files::{failure_of, read_table};
-use crate::serving::{Listening, NotServed, serve_at};
 use crate::words::{read_count, read_port};
 use ojp_outside::{Doors, Sink, Store};
+use ojp_steps::failures::Failure;
+use ojp_steps::files::{failure_of, read_table};
+use ojp_steps::serving::{Listening, NotServed, serve_at};
 use std::alloc::Global;
 use std::sync::Wait;
 
