@@ -1,0 +1,5 @@
+pub mod PortFacts
+pub mod HostFacts
+pub mod RegionFacts
+pub mod ReadFacts
+pub mod ExampleFacts

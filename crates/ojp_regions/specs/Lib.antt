@@ -1,0 +1,5 @@
+pub mod Hosts
+pub mod Lines
+pub mod RegionsText
+pub mod Laws
+pub mod Examples
