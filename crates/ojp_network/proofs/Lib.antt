@@ -1,0 +1,5 @@
+pub mod DrawFacts
+mod Examples
+pub mod PlaceFacts
+pub mod ResultFacts
+pub mod StopFacts
