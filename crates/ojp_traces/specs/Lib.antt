@@ -1,0 +1,4 @@
+pub mod Lines
+pub mod TurnEvents
+pub mod Traces
+pub mod TraceExamples
