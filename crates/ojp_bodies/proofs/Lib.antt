@@ -1,0 +1,2 @@
+pub mod AskFacts
+pub mod ServedFacts
