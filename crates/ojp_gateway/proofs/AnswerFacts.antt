@@ -1,5 +1,5 @@
 -- What the gateway answers, by how its search ended.
-use Rattle.std.proofs.Common.{◌≡◌, ◌≢◌, ◌⊎◌, List, [], ◌∷◌, Option, Some, None, Result, Ok, Err, IfOk, refl, sym, ◌∙◌, ap, subst, inl, inr}
+use Rattle.std.proofs.Common.{◌≡◌, ◌≢◌, ◌⊎◌, List, [], ◌∷◌, Option, Some, None, refl, sym, ◌∙◌, ap, subst, inl, inr}
 use Rattle.ojp_values.specs.Lists.{Each}
 use Rattle.ojp_values.specs.Texts.{Text}
 use Rattle.ojp_values.specs.declared.trips.Point.{Point}
@@ -7,7 +7,6 @@ use Rattle.ojp_values.specs.declared.asks.TripAsk.{TripAsk}
 use Rattle.ojp_values.specs.declared.asks.MultiAsk.{MultiAsk}
 use Rattle.ojp_values.specs.declared.asks.EventAsk.{EventAsk}
 use Rattle.ojp_values.specs.declared.asks.PointsAsk.{PointsAsk}
-use Rattle.ojp_values.specs.declared.asks.Ask.{Ask}
 use Rattle.ojp_values.specs.declared.asks.Ask.TheVariants as asks
 use Rattle.ojp_values.specs.declared.replies.Fault.TheVariants as faults
 use Rattle.ojp_values.specs.declared.replies.TripReply.{TripReply}
@@ -28,7 +27,6 @@ use Rattle.ojp_turns.specs.declared.search.Outcome.{Outcome}
 use Rattle.ojp_turns.specs.declared.search.Search.{Search}
 use Rattle.ojp_turns.specs.Faults.{HasCause}
 use Rattle.ojp_turns.specs.Searches.{IsNewFor, EndsAs, record_of}
-use Rattle.ojp_gateway.specs.declared.answering.Answer.{Answer}
 use Rattle.ojp_gateway.specs.Passing.{Grows, Sought}
 use Rattle.ojp_gateway.specs.Answers.{Answers, IsRight, NoneRejected, PointsByBook, delivery_of_points}
 use Rattle.ojp_gateway.proofs.NamedFacts.{named_stands, place_rose, stands_rose}
@@ -135,9 +133,3 @@ searched book ask old new s now outcome reply told fresh sought ended is =
     let differ : ask.origin ≢ ask.target = subst (λ (a : TripAsk). a.origin ≢ a.target) fresh.asks_this fresh.is_search.differ in
     subst (λ (t : List Entry). Answers book old new t (asks.Trip ask) (deliveries.Trip reply)) (sym is)
     (searched_by book ask old new (record_of now) reply differ ended (begun book ask old new s now outcome fresh sought))
-
-pub points_given : {E : Type 0} (book : Book) (v : View) (ask : PointsAsk) (asked : Ask) (result : Result Answer E) → asked ≡ asks.Points ask → IfOk result (λ answer. answer.told ≡ []) → IfOk result (λ answer. PointsByBook book ask.place answer.delivery)
-    → IfOk result (λ answer. Answers book v v answer.told asked answer.delivery)
-points_given book v ask asked (Ok answer) is none by =
-    subst (λ (a : Ask). Answers book v v answer.told a answer.delivery) (sym is) (points_answered book v ask answer.told answer.delivery none by)
-points_given book v ask asked (Err e) is none by = tt

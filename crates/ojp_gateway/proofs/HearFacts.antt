@@ -8,7 +8,7 @@ use Rattle.ojp_links.specs.declared.expect.Expect.TheVariants as expects
 use Rattle.ojp_links.specs.Replies.{FitsExpected, ask_of}
 use Rattle.ojp_timetable.specs.Answers.{RegionAnswers}
 use Rattle.ojp_links.specs.Seen.{View, Fixed, ask_at, codes_of}
-use Rattle.ojp_links.specs.Calls.{Keeps, NotRaised, RestsOnce, Spends}
+use Rattle.ojp_links.specs.Calls.{Idles, Keeps, NotRaised, RestsOnce, Spends}
 use Rattle.ojp_subrequests.specs.declared.subreply.SubPoll.TheVariants as polls
 use Rattle.ojp_subrequests.specs.declared.subreply.SubEnd.{SubEnd}
 use Rattle.ojp_subrequests.specs.declared.subreply.SubEnd.TheVariants as ends
@@ -32,6 +32,10 @@ by_key P key other here there =
 
 -- ---- from one poll to the next
 
+-- nothing happened
+pub idles_self : (v : View) → Idles v v
+idles_self v = record { keeps = keeps_self v; rejections = refl; made = refl; live = λ key. refl }
+
 -- so far it goes on, alone
 pub record HearsOn (old new : View) (s now : SubView) : Type 0 where
   pub keeps : Keeps old new
@@ -52,23 +56,23 @@ safe_by old mid s at (expects.Kind ask) keeps region (tables, told) = (tables, a
 safe_on : (old mid : View) (s at : SubView) → HearsOn old mid s at → IsSafe old s s.expect → IsSafe mid at at.expect
 safe_on old mid s at h safe = subst (IsSafe mid at) (sym h.expects) (safe_by old mid s at s.expect h.keeps h.region safe)
 
-module _ (old mid after new : View) (s at now : SubView) (h : HearsOn old mid s at) (safe : IsSafe mid at at.expect → after.rejections ≡ mid.rejections) (rests : RestsOnce after new) where
+module _ (old mid after new : View) (s at now : SubView) (h : HearsOn old mid s at) (safe : IsSafe mid at at.expect → after.rejections ≡ mid.rejections) (idles : Idles after new) where
   goes_on : (seen : View) → Looked mid after at.key → GoesOn seen after at now → HearsOn old new s now
   goes_on seen looked on =
       let held : IsHeldAs now (codes_of after.fixed) (after.live now.key) = subst (λ (v : View). IsHeldAs now (codes_of v.fixed) (v.live now.key)) (sym on.same) on.held in
       let kept : Keeps old after = keeps_on old mid after h.keeps looked.keeps in
       record {
-        keeps = keeps_on old after new kept rests.idles.keeps;
+        keeps = keeps_on old after new kept idles.keeps;
         alone = record {
-          held = subst (λ (f : Fixed). IsHeldAs now (codes_of f) (new.live now.key)) (sym rests.idles.keeps.fixed)
-              (held_plain now (codes_of after.fixed) (new.live now.key) (after.live now.key) (rests.idles.live now.key) held);
+          held = subst (λ (f : Fixed). IsHeldAs now (codes_of f) (new.live now.key)) (sym idles.keeps.fixed)
+              (held_plain now (codes_of after.fixed) (new.live now.key) (after.live now.key) (idles.live now.key) held);
           only = λ key apart.
               let other : key ≢ at.key = λ e. apart (e ∙ sym on.key) in
-              none_plain (new.live key) (after.live key) (rests.idles.live key) (looked.others key other ∙ h.alone.only key other);
+              none_plain (new.live key) (after.live key) (idles.live key) (looked.others key other ∙ h.alone.only key other);
         };
         region = on.region ∙ h.region;
         expects = on.expects ∙ h.expects;
-        rejects_none = λ told. rests.idles.rejections ∙ (safe (safe_on old mid s at h told) ∙ h.rejects_none told);
+        rejects_none = λ told. idles.rejections ∙ (safe (safe_on old mid s at h told) ∙ h.rejects_none told);
       }
 
   pub hears_waits : Polls mid after at now polls.Pending → HearsOn old new s now

@@ -1,5 +1,5 @@
 -- The lists that the regions give, and the book that they make.
-use Rattle.std.proofs.Common.{◌≡◌, ℕ, suc, true, ◌+◌, ◌<◌, ◌≤◌, List, [], ◌∷◌, ◌++◌, map, take, length, Option, Some, IfSome, Result, Err, unwrap_or, slice_get, get_or, option_map, refl, sym, ◌∙◌, ap, subst, arith}
+use Rattle.std.proofs.Common.{◌≡◌, ℕ, suc, true, ◌+◌, ◌<◌, ◌≤◌, List, [], ◌∷◌, ◌++◌, map, take, length, Option, Some, IfSome, unwrap_or, slice_get, get_or, option_map, refl, sym, ◌∙◌, ap, subst, arith}
 use Rattle.std.proofs.lemmas.List.{length-map, map-append, take_all}
 use Rattle.std.proofs.lemmas.Option.{slice_get-map, slice_get-get_or, get_or_from_slice_get}
 use Rattle.std.proofs.Math.Seq.{take-suc}
@@ -20,10 +20,9 @@ use Rattle.ojp_timetable.specs.Journeys.{AreTables}
 use Rattle.ojp_timetable.specs.Points.{AreWellPoints}
 use Rattle.ojp_timetable.proofs.ReadFacts.{at_among, read_once}
 use Rattle.ojp_exchange.specs.declared.region_points.RegionPoints.{RegionPoints}
-use Rattle.ojp_exchange.specs.declared.refusals.BookRefused.{BookRefused}
 use Rattle.ojp_exchange.specs.Book.{Book, HasCode, IsBookOf, points_of}
 use Rattle.ojp_exchange.specs.Kept.{IsWellBook}
-use Rattle.ojp_exchange.specs.Joins.{IsJoined, IsRefused}
+use Rattle.ojp_exchange.specs.Joins.{IsJoined}
 use Rattle.ojp_links.specs.declared.expect.Expect.{Expect}
 use Rattle.ojp_links.specs.declared.expect.Expect.TheVariants as expects
 use Rattle.ojp_links.specs.Fits.{Fits}
@@ -33,12 +32,9 @@ use Rattle.ojp_links.specs.Seen.{View, Fixed, AreServers, IsSound, NoneLive, Tel
 use Rattle.ojp_links.specs.Calls.{Keeps}
 use Rattle.ojp_subrequests.specs.Views.{SubView}
 use Rattle.ojp_subrequests.specs.Subrequests.{IsSafe, MakesAsk}
-use Rattle.ojp_turns.specs.Faults.{FaultRose}
 use Rattle.ojp_turns.proofs.PollFacts.{Numbered, code_of_numbered, numbered}
 use Rattle.ojp_turns.proofs.RoundFacts.{rose_from, tells_on}
-use Rattle.ojp_gateway.specs.declared.learning.LearnRefused.{LearnRefused}
-use Rattle.ojp_gateway.specs.declared.learning.LearnRefused.TheVariants as refusals
-use Rattle.ojp_gateway.specs.Learning.{AreLists, IsAlone, IsLearned, IsListOf, IsListing, IsRefusedTold, IsReplied, RejectsNoneTold, all_points_ask, code_of_list}
+use Rattle.ojp_gateway.specs.Learning.{AreHeard, AreLists, FailsFirst, IsAlone, IsLearned, IsListOf, IsListing, IsReplied, RejectsNoneTold, all_points_ask, code_of_list}
 use Rattle.ojp_gateway.proofs.SeekFacts.{each_joined}
 use Rattle.ojp_gateway.proofs.WellFacts.{well_points}
 
@@ -109,9 +105,17 @@ pub failed_heard : (old mid new : View) (region : ℕ) (s : SubView) → Keeps o
 failed_heard old mid new region s keeps asks rose =
     rose_from (old.faults region) (mid.faults region) (new.faults region) (keeps.faults region) (subst (λ (r : ℕ). Rose (mid.faults r) (new.faults r)) asks.0 rose)
 
-pub fault_of : (old mid new : View) (region : ℕ) (code : Text) → Keeps old mid → region < length old.fixed.stations → code_at new region ≡ code → Keeps mid new → Rose (mid.faults region) (new.faults region) → FaultRose old new code
-fault_of old mid new region code keeps within is kept rose =
-    (region, within, ap (λ (f : Fixed). code_in (codes_of f) region) (sym (kept.fixed ∙ keeps.fixed)) ∙ is, rose_from (old.faults region) (mid.faults region) (new.faults region) (keeps.faults region) rose)
+pub fails_first : (old mid new : View) (region : ℕ) (code : Text) (lists : List RegionPoints) → Keeps old mid → region < length old.fixed.stations → code ≡ code_at new region → Keeps mid new → Rose (mid.faults region) (new.faults region)
+    → AreLists old region lists → FailsFirst old new code
+fails_first old mid new region code lists keeps within is kept rose before =
+    record {
+      region = region;
+      below = within;
+      is = ap (λ (f : Fixed). code_in (codes_of f) region) (sym (kept.fixed ∙ keeps.fixed)) ∙ sym is;
+      rose = rose_from (old.faults region) (mid.faults region) (new.faults region) (keeps.faults region) rose;
+      lists = lists;
+      before = before;
+    }
 
 -- ---- all lists
 
@@ -193,10 +197,17 @@ has_code_from lists code among =
     let m : Member lists (λ (l : RegionPoints). code ≡ code_of_list l) = among_map_back code_of_list code lists among in
     (m.item, m.among, sym m.holds)
 
+pub heard : (v : View) (n : ℕ) (lists : List RegionPoints) → length v.fixed.stations ≤ n → AreLists v n lists → AreHeard v lists
+heard v n lists whole are =
+    record { codes = lists_codes v n lists whole are; well = are.well; told = λ tables tells. lists_told v n lists tables whole are tells }
+
 pub learned : (v : View) (n : ℕ) (lists : List RegionPoints) (book : Book) → IsSound v → length v.fixed.stations ≤ n → AreLists v n lists → IsJoined lists book → IsWellBook book → IsLearned v book
 learned v n lists book sound whole are joined well =
     let codes : map code_of_list lists ≡ codes_of v.fixed = lists_codes v n lists whole are in
     record {
+      lists = lists;
+      heard = heard v n lists whole are;
+      joined = joined;
       regions = λ code. (
         λ among. subst (Among code) codes (has_code_to lists code ((joined.book_of.codes code).0 among)),
         λ among. (joined.book_of.codes code).1 (has_code_from lists code (subst (Among code) (sym codes) among)),
@@ -207,20 +218,3 @@ learned v n lists book sound whole are joined well =
         book_well = well;
       };
     }
-
-pub refused_told : (v : View) (n : ℕ) (lists : List RegionPoints) (reason : BookRefused) → length v.fixed.stations ≤ n → AreLists v n lists → IsRefused lists reason → IsRefusedTold v reason
-refused_told v n lists reason whole are refused tables tells = subst (λ (ls : List RegionPoints). IsRefused ls reason) (lists_told v n lists tables whole are tells) refused
-
--- ---- refusals
-
-abbrev refusing : LearnRefused → Result Book LearnRefused
-refusing refused = Err refused
-
-pub region_is : (a b : Text) → refusing (refusals.Region a) ≡ refusing (refusals.Region b) → a ≡ b
-region_is a b e = cc
-
-pub reason_is : (a b : BookRefused) → refusing (refusals.Book a) ≡ refusing (refusals.Book b) → a ≡ b
-reason_is a b e = cc
-
-pub no_region : (reason : BookRefused) (code : Text) → refusing (refusals.Book reason) ≡ refusing (refusals.Region code) → ⊥
-no_region reason code e = absurd (cc)

@@ -6,3 +6,5 @@ pub mod WellFacts
 pub mod HearFacts
 pub mod LearnFacts
 pub mod LengthFacts
+pub mod ServedFacts
+pub mod AnsweringFacts

@@ -222,3 +222,32 @@ too_many book old new s at count x counted =
     let is : asked_for at ≡ asked_for s = x.same_ask in
     let bound : asks_of at ≤ most_asks book (asked_for at) = subst (λ (a : TripAsk). asks_of at ≤ most_asks book a) (sym is) x.bounded in
     omega (arith, counted, asks_few book (asked_for at) (asks_of at) x.can_turn.is_search.board_of.book_well x.can_turn.is_search.board_of.origin_well bound)
+
+-- ---- over links that may wait
+
+module _ (book : Book) (old mid new : View) (s at now : Search) (x : SeeksOn book old mid s at) where
+  turned : (moved : Bool) → GoesOn moved book mid new at now → Passes book (asked_for at) mid new (held_of at) (record_of at) (record_of now) → asked_for now ≡ asked_for at → asks_of now ≤ most_asks book (asked_for at) → SeeksOn book old new s now
+  turned moved goes passes same bounded =
+      record {
+        can_turn = goes.can_turn;
+        same_ask = same ∙ x.same_ask;
+        grows = grows_on book (asked_for s) old mid new (record_of s) (record_of at) (record_of now) x.grows
+            (subst (λ (a : TripAsk). Grows book a mid new (record_of at) (record_of now)) x.same_ask (grows_by book (asked_for at) mid new (held_of at) (record_of at) (record_of now) passes));
+        bounded = subst (λ (a : TripAsk). asks_of now ≤ most_asks book a) x.same_ask bounded;
+      }
+
+  pub turned_moved : Turns book mid new at now turns.Moved → SeeksOn book old new s now
+  turned_moved t = turned true t.means t.passes t.same_ask t.bounded
+
+  pub turned_waits : Turns book mid new at now turns.Waits → SeeksOn book old new s now
+  turned_waits t = turned false t.means t.passes t.same_ask t.bounded
+
+-- a search may go on after links were idle
+pub idled : (book : Book) (old mid new : View) (s at : Search) → SeeksOn book old mid s at → Idles mid new → SeeksOn book old new s at
+idled book old mid new s at x idles =
+    record {
+      can_turn = rested book at mid new x.can_turn idles;
+      same_ask = x.same_ask;
+      grows = grows_on book (asked_for s) old mid new (record_of s) (record_of at) (record_of at) x.grows (grows_rest book (asked_for s) mid new (record_of at) idles);
+      bounded = x.bounded;
+    }

@@ -1,5 +1,5 @@
 -- How the book is learned: each region lists its exchange points.
-use Rattle.std.specs.Prelude.{◌≡◌, ◌≢◌, ℕ, List, map, take, slice_get, Some, None}
+use Rattle.std.specs.Prelude.{◌≡◌, ◌≢◌, ◌<◌, ℕ, List, length, map, take, slice_get, Some, None, Result, Ok, Err}
 use Rattle.ojp_outside.specs.Causes.{Rose}
 use Rattle.ojp_values.specs.Texts.{Text}
 use Rattle.ojp_values.specs.declared.asks.Ask.{Ask}
@@ -13,8 +13,9 @@ use Rattle.ojp_timetable.specs.Answers.{RegionAnswers}
 use Rattle.ojp_timetable.specs.Points.{AreWellPoints}
 use Rattle.ojp_exchange.specs.declared.region_points.RegionPoints.{RegionPoints}
 use Rattle.ojp_exchange.specs.declared.refusals.BookRefused.{BookRefused}
+use Rattle.ojp_exchange.specs.declared.refusals.BookRefused.TheVariants as book_refusals
 use Rattle.ojp_exchange.specs.Book.{Book, points_of}
-use Rattle.ojp_exchange.specs.Joins.{AreWellLists, IsRefused}
+use Rattle.ojp_exchange.specs.Joins.{AreWellLists, IsJoined, IsRefused}
 use Rattle.ojp_links.specs.Replies.{FitsExpected, IsReplyOf, ask_of}
 use Rattle.ojp_links.specs.Seen.{View, NoneLive, code_at, codes_of, TellsTables}
 use Rattle.ojp_links.specs.Calls.{Keeps}
@@ -25,6 +26,8 @@ use Rattle.ojp_subrequests.specs.Views.{SubView}
 use Rattle.ojp_subrequests.specs.Subrequests.{IsHeldIn, IsSafe}
 use Rattle.ojp_turns.specs.Faults.{NoRejectionRose}
 use Rattle.ojp_turns.specs.Held.{HasRegions}
+use Rattle.ojp_gateway.specs.declared.learning.LearnRefused.{LearnRefused}
+use Rattle.ojp_gateway.specs.declared.learning.LearnRefused.TheVariants as refusals
 
 -- ---- one subrequest
 
@@ -83,11 +86,48 @@ pub record AreLists (v : View) (count : ℕ) (lists : List RegionPoints) : Type 
 abbrev pub RejectsNoneTold : View → View → Type 0
 RejectsNoneTold old new = (tables : List Timetable) → TellsTables old tables → NoRejectionRose old new
 
--- what was learned: the book's regions are the links' codes, and where timetables are told, it is theirs
+-- they are the lists of all regions: what each may declare, and where timetables are told, what each declares
+pub record AreHeard (v : View) (lists : List RegionPoints) : Type 0 where
+  pub codes : map code_of_list lists ≡ codes_of v.fixed
+  pub well : AreWellLists lists
+  pub told : (tables : List Timetable) → TellsTables v tables → lists ≡ map points_of tables
+
+-- ---- what is learned
+
+-- the book of the lists that were heard: its regions are the links' codes, and where timetables are told, it is theirs
 pub record IsLearned (v : View) (book : Book) : Type 0 where
+  pub lists : List RegionPoints
+  pub heard : AreHeard v lists
+  pub joined : IsJoined lists book
   pub regions : HasRegions book v
   pub theirs : (tables : List Timetable) → TellsTables v tables → AreTablesOf tables book
 
--- where timetables are told, what they declare makes no book, for this reason
-abbrev pub IsRefusedTold : View → BookRefused → Type 0
-IsRefusedTold v reason = (tables : List Timetable) → TellsTables v tables → IsRefused (map points_of tables) reason
+-- the region with the code failed, and its count of faults rose; the lists of those before it were heard
+pub record FailsFirst (old new : View) (code : Text) : Type 0 where
+  pub region : ℕ
+  pub below : region < length old.fixed.stations
+  pub is : code_at old region ≡ code
+  pub rose : Rose (old.faults region) (new.faults region)
+  pub lists : List RegionPoints
+  pub before : AreLists old region lists
+
+-- the lists that were heard make no book, for this reason
+pub record IsRefusedHeard (v : View) (reason : BookRefused) : Type 0 where
+  pub lists : List RegionPoints
+  pub heard : AreHeard v lists
+  pub refused : IsRefused lists reason
+  pub some : reason ≢ book_refusals.NoMemory
+
+-- what the answer of a learning call means
+abbrev pub LearnsAs : View → View → Result Book LearnRefused → Type 0
+LearnsAs old new (Ok book) = IsLearned old book
+LearnsAs old new (Err (refusals.Region code)) = FailsFirst old new code
+LearnsAs old new (Err (refusals.Book reason)) = IsRefusedHeard old reason
+LearnsAs old new (Err refusals.NoMemory) = Unit {0}
+
+-- the regions were asked, one after another, for all their exchange points
+pub record Learns (old new : View) (result : Result Book LearnRefused) : Type 0 where
+  pub keeps : Keeps old new
+  pub none_live : NoneLive new
+  pub none_rejected : RejectsNoneTold old new
+  pub learns : LearnsAs old new result

@@ -3,4 +3,6 @@ pub use Rattle.ojp_turns.specs.Held
 pub use Rattle.ojp_turns.specs.Searches
 pub mod Passing
 pub mod Answers
+pub mod Answering
 pub mod Learning
+pub mod Serving

@@ -1,12 +1,13 @@
 //! What the gateway answers to an ask.
 
-ghost use Rattle.std.specs.Prelude.{◌≡◌, [], IfOk};
+ghost use Rattle.std.specs.Prelude.{◌≡◌, [], IfOk, true};
 ghost use Rattle.ojp_values.specs.Limits.{IsWellDelivery};
 ghost use Rattle.ojp_values.specs.declared.asks.Ask.TheVariants as asks;
 ghost use Rattle.ojp_links.specs.Seen.{NoneLive};
-ghost use Rattle.ojp_links.specs.Calls.{Keeps};
 ghost use Rattle.ojp_turns.specs.Held.{HasRegions};
-ghost use Rattle.ojp_gateway.specs.Answers.{Answers, NoneRejected, PointsByBook, delivery_of_points};
+ghost use Rattle.ojp_turns.specs.Searches.{is_done};
+ghost use Rattle.ojp_gateway.specs.Answers.{PointsByBook, delivery_of_points};
+ghost use Rattle.ojp_gateway.specs.Answering.{AnswersAsk, Begins, IsOutcome};
 
 use crate::seeking::seek_paced;
 use ojp_exchange::Book;
@@ -40,50 +41,65 @@ pub fn answer_paced<L: PacedLinks>(
 ) -> Result<Answer, NoMemory>
     requires regions { HasRegions book.now (L.seen links.old) }
     requires none_live { NoneLive (L.seen links.old) }
-    ensures keeps { Keeps (L.seen links.old) (L.seen links.new) }
-    ensures none_live { NoneLive (L.seen links.new) }
-    ensures rejections { NoneRejected book.now (L.seen links.old) (L.seen links.new) }
-    ensures answers { IfOk result (λ answer. Answers book.now (L.seen links.old) (L.seen links.new) answer.told ask.now answer.delivery) }
-    ensures well { IfOk result (λ answer. IsWellDelivery answer.delivery) }
+    ensures { AnswersAsk book.now (L.seen links.old) (L.seen links.new) ask.now result }
 {
-    match ask {
-        Ask::Trip(ask) => answer_trip(alloc, book, links, ask),
-        Ask::Multi(_) => Ok(without_search(
-            alloc,
-            Delivery::Multi(MultiReply::Fault(Fault::NotServed)),
-        )),
-        Ask::Events(_) => Ok(without_search(
-            alloc,
-            Delivery::Events(EventsReply::Fault(Fault::NotServed)),
-        )),
-        Ask::Points(ask) => answer_points(alloc, book, ask),
+    match begin(alloc, book, ask)? {
+        Begun::Answered(answer) => Ok(answer),
+        Begun::Search(mut search) => {
+            let outcome = seek_paced(book, links, &mut search);
+            conclude(search, outcome)
+        }
     }
 }
 
-/// Answers an ask for a trip: two different stops take a search.
-fn answer_trip<L: PacedLinks>(
-    alloc: Global,
-    book: &Book,
-    links: &mut L,
-    ask: &TripAsk,
-) -> Result<Answer, NoMemory>
-    requires regions { HasRegions book.now (L.seen links.old) }
-    requires none_live { NoneLive (L.seen links.old) }
-    ensures keeps { Keeps (L.seen links.old) (L.seen links.new) }
-    ensures none_live { NoneLive (L.seen links.new) }
-    ensures rejections { NoneRejected book.now (L.seen links.old) (L.seen links.new) }
-    ensures answers { IfOk result (λ answer. Answers book.now (L.seen links.old) (L.seen links.new) answer.told (asks.Trip ask.now) answer.delivery) }
-    ensures well { IfOk result (λ answer. IsWellDelivery answer.delivery) }
+/// An ask that was answered, or the search that is to answer it.
+#[derive(Drop)]
+pub(crate) enum Begun {
+    Answered(Answer),
+    Search(Search),
+}
+
+/// Answers an ask that takes no search, or makes its search.
+pub(crate) fn begin(alloc: Global, book: &Book, ask: &Ask) -> Result<Begun, NoMemory>
+    ensures { IfOk result (Begins book.now ask.now) }
 {
-    book.is_well();
+    match ask {
+        Ask::Trip(ask) => begin_trip(alloc, book, ask),
+        Ask::Multi(_) => {
+            let unserved = Delivery::Multi(MultiReply::Fault(Fault::NotServed));
+            Ok(Begun::Answered(without_search(alloc, unserved)))
+        }
+        Ask::Events(_) => {
+            let unserved = Delivery::Events(EventsReply::Fault(Fault::NotServed));
+            Ok(Begun::Answered(without_search(alloc, unserved)))
+        }
+        Ask::Points(ask) => match answer_points(alloc, book, ask) {
+            Ok(answer) => Ok(Begun::Answered(answer)),
+            Err(NoMemory) => Err(NoMemory),
+        },
+    }
+}
+
+/// Makes the search for a trip between two different stops.
+fn begin_trip(alloc: Global, book: &Book, ask: &TripAsk) -> Result<Begun, NoMemory>
+    ensures { IfOk result (Begins book.now (asks.Trip ask.now)) }
+{
     if ask.origin == ask.target {
         let same = Fault::SameStop(ask.origin);
-        return Ok(without_search(alloc, Delivery::Trip(TripReply::Fault(same))));
+        let delivery = Delivery::Trip(TripReply::Fault(same));
+        return Ok(Begun::Answered(without_search(alloc, delivery)));
     }
-    let Ok(mut search) = Search::new(alloc, book, ask) else {
-        return Err(NoMemory);
-    };
-    let outcome = seek_paced(book, links, &mut search);
+    match Search::new(alloc, book, ask) {
+        Ok(search) => Ok(Begun::Search(search)),
+        Err(NoMemory) => Err(NoMemory),
+    }
+}
+
+/// The answer by the outcome of a search that is done, with its record.
+pub(crate) fn conclude(search: Search, outcome: Outcome) -> Result<Answer, NoMemory>
+    requires done { is_done search ≡ true }
+    ensures { IfOk result (IsOutcome search outcome) }
+{
     let told = search.into_told();
     match outcome {
         Outcome::Trip(trip) => Ok(Answer {

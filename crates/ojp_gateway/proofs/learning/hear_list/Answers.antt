@@ -17,34 +17,34 @@ returns-in-Heard-clause-list g c =
 pub returns-in-Heard-clause-rejections : goal.returns-in-Heard-clause-rejections
 returns-in-Heard-clause-rejections g c =
     let asks = asks_all (g.L.Links.seen c.args.links.now) (g.L.Links.seen c.begin.new.links) c.args.region c.in_ok-sub.sub c.in_ok-sub.ensures.made in
-    rejects_heard (g.L.Links.seen c.args.links.now) (g.L.Links.seen c.begin.new.links) (g.L.Links.seen c.heard.new.links) c.args.region c.in_ok-sub.sub
+    rejects_heard (g.L.Links.seen c.args.links.now) (g.L.Links.seen c.begin.new.links) (g.L.Links.seen c.hear.new.links) c.args.region c.in_ok-sub.sub
     c.in_ok-sub.ensures.keeps asks c.requires.region c.in_ok-sub.ensures.rejections c.in-Heard.ensures.rejects_none
 
 pub returns-in-Failed-clause-rejections : goal.returns-in-Failed-clause-rejections
 returns-in-Failed-clause-rejections g c =
     let asks = asks_all (g.L.Links.seen c.args.links.now) (g.L.Links.seen c.begin.new.links) c.args.region c.in_ok-sub.sub c.in_ok-sub.ensures.made in
-    rejects_heard (g.L.Links.seen c.args.links.now) (g.L.Links.seen c.begin.new.links) (g.L.Links.seen c.heard.new.links) c.args.region c.in_ok-sub.sub
+    rejects_heard (g.L.Links.seen c.args.links.now) (g.L.Links.seen c.begin.new.links) (g.L.Links.seen c.hear.new.links) c.args.region c.in_ok-sub.sub
     c.in_ok-sub.ensures.keeps asks c.requires.region c.in_ok-sub.ensures.rejections c.in-Failed.ensures.rejects_none
 
 pub returns-in-NoMemory-clause-rejections : goal.returns-in-NoMemory-clause-rejections
 returns-in-NoMemory-clause-rejections g c =
     let asks = asks_all (g.L.Links.seen c.args.links.now) (g.L.Links.seen c.begin.new.links) c.args.region c.in_ok-sub.sub c.in_ok-sub.ensures.made in
-    rejects_heard (g.L.Links.seen c.args.links.now) (g.L.Links.seen c.begin.new.links) (g.L.Links.seen c.heard.new.links) c.args.region c.in_ok-sub.sub
+    rejects_heard (g.L.Links.seen c.args.links.now) (g.L.Links.seen c.begin.new.links) (g.L.Links.seen c.hear.new.links) c.args.region c.in_ok-sub.sub
     c.in_ok-sub.ensures.keeps asks c.requires.region c.in_ok-sub.ensures.rejections c.in-NoMemory.ensures.rejects_none
 
-pub heard-requires : goal.heard-requires
-heard-requires g c = alone_begins (g.L.Links.seen c.args.links.now) (g.L.Links.seen c.begin.new.links) c.args.region c.in_ok-sub.sub c.requires.none_live c.in_ok-sub.ensures.made
+pub hear-requires : goal.hear-requires
+hear-requires g c = alone_begins (g.L.Links.seen c.args.links.now) (g.L.Links.seen c.begin.new.links) c.args.region c.in_ok-sub.sub c.requires.none_live c.in_ok-sub.ensures.made
 
 pub returns-in-Heard-clause-keeps : goal.returns-in-Heard-clause-keeps
-returns-in-Heard-clause-keeps g c = keeps_on (g.L.Links.seen c.args.links.now) (g.L.Links.seen c.begin.new.links) (g.L.Links.seen c.heard.new.links) c.in_ok-sub.ensures.keeps c.in-Heard.ensures.keeps
+returns-in-Heard-clause-keeps g c = keeps_on (g.L.Links.seen c.args.links.now) (g.L.Links.seen c.begin.new.links) (g.L.Links.seen c.hear.new.links) c.in_ok-sub.ensures.keeps c.in-Heard.ensures.keeps
 
 pub returns-in-Failed-clause-keeps : goal.returns-in-Failed-clause-keeps
-returns-in-Failed-clause-keeps g c = keeps_on (g.L.Links.seen c.args.links.now) (g.L.Links.seen c.begin.new.links) (g.L.Links.seen c.heard.new.links) c.in_ok-sub.ensures.keeps c.in-Failed.ensures.keeps
+returns-in-Failed-clause-keeps g c = keeps_on (g.L.Links.seen c.args.links.now) (g.L.Links.seen c.begin.new.links) (g.L.Links.seen c.hear.new.links) c.in_ok-sub.ensures.keeps c.in-Failed.ensures.keeps
 
 pub returns-in-NoMemory-clause-keeps : goal.returns-in-NoMemory-clause-keeps
-returns-in-NoMemory-clause-keeps g c = keeps_on (g.L.Links.seen c.args.links.now) (g.L.Links.seen c.begin.new.links) (g.L.Links.seen c.heard.new.links) c.in_ok-sub.ensures.keeps c.in-NoMemory.ensures.keeps
+returns-in-NoMemory-clause-keeps g c = keeps_on (g.L.Links.seen c.args.links.now) (g.L.Links.seen c.begin.new.links) (g.L.Links.seen c.hear.new.links) c.in_ok-sub.ensures.keeps c.in-NoMemory.ensures.keeps
 
 pub returns-in-Failed-clause-failed : goal.returns-in-Failed-clause-failed
 returns-in-Failed-clause-failed g c e =
     let asks = asks_all (g.L.Links.seen c.args.links.now) (g.L.Links.seen c.begin.new.links) c.args.region c.in_ok-sub.sub c.in_ok-sub.ensures.made in
-    failed_heard (g.L.Links.seen c.args.links.now) (g.L.Links.seen c.begin.new.links) (g.L.Links.seen c.heard.new.links) c.args.region c.in_ok-sub.sub c.in_ok-sub.ensures.keeps asks c.in-Failed.ensures.means
+    failed_heard (g.L.Links.seen c.args.links.now) (g.L.Links.seen c.begin.new.links) (g.L.Links.seen c.hear.new.links) c.args.region c.in_ok-sub.sub c.in_ok-sub.ensures.keeps asks c.in-Failed.ensures.means

@@ -1,5 +1,5 @@
 use Rattle.ojp_gateway.proofs.HearFacts.{hears_start, hears_waits, hears_moved, waits_fall, moved_fall, hears_end}
-use Rattle.ojp_gateway.proofs.learning.hear_end.Goals as goal
+use Rattle.ojp_gateway.proofs.learning.hear_resting.Goals as goal
 
 pub hearing-init : goal.hearing-init
 hearing-init g c = hears_start (g.L.Links.seen c.args.links.now) c.args.sub.now c.requires
@@ -7,7 +7,7 @@ hearing-init g c = hears_start (g.L.Links.seen c.args.links.now) c.args.sub.now 
 pub hearing-preserved-in-Pending : goal.hearing-preserved-in-Pending
 hearing-preserved-in-Pending g c =
     hears_waits (g.L.Links.seen c.args.links.now) (g.L.Links.seen c.hearing.links) (g.L.Links.seen c.poll.new.links) (g.L.Links.seen c.rest.new.self) c.args.sub.now c.hearing.sub c.poll.new.self
-    c.hearing.invariant c.in-Pending.ensures.safe c.rest.ensures c.in-Pending.ensures.polls
+    c.hearing.invariant c.in-Pending.ensures.safe c.rest.ensures.idles c.in-Pending.ensures.polls
 
 pub hearing-smaller-in-Pending : goal.hearing-smaller-in-Pending
 hearing-smaller-in-Pending g c =
@@ -16,7 +16,7 @@ hearing-smaller-in-Pending g c =
 pub hearing-preserved : goal.hearing-preserved
 hearing-preserved g c =
     hears_moved (g.L.Links.seen c.args.links.now) (g.L.Links.seen c.hearing.links) (g.L.Links.seen c.poll.new.links) (g.L.Links.seen c.rest-in-Moved.new.self) c.args.sub.now c.hearing.sub c.poll.new.self
-    c.hearing.invariant c.in-Moved.ensures.safe c.rest-in-Moved.ensures c.in-Moved.ensures.polls
+    c.hearing.invariant c.in-Moved.ensures.safe c.rest-in-Moved.ensures.idles c.in-Moved.ensures.polls
 
 pub hearing-smaller : goal.hearing-smaller
 hearing-smaller g c =

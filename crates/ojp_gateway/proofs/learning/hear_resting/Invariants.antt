@@ -1,5 +1,5 @@
 use Rattle.ojp_gateway.proofs.HearFacts.{HearsOn, work_of}
-use Rattle.ojp_gateway.proofs.learning.hear_end.Given as goal
+use Rattle.ojp_gateway.proofs.learning.hear_resting.Given as goal
 
 abbrev pub invariant-hearing : goal.invariant-hearing
 invariant-hearing g l = HearsOn (g.L.Links.seen l.fn.links) (g.L.Links.seen l.links) l.fn.sub l.sub

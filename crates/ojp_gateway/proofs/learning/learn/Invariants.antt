@@ -1,7 +1,7 @@
 use Rattle.ojp_links.specs.Seen.{NoneLive}
 use Rattle.ojp_links.specs.Calls.{Keeps}
 use Rattle.ojp_gateway.specs.Learning.{AreLists, RejectsNoneTold}
-use Rattle.ojp_gateway.proofs.learning.learn_paced.Given as goal
+use Rattle.ojp_gateway.proofs.learning.learn.Given as goal
 
 abbrev pub invariant-asking : goal.invariant-asking
 invariant-asking g l = record {
