@@ -6,20 +6,11 @@ use ojp_records::Query;
 #[derive(Clone, Copy, Debug, PartialEq, Eq)]
 pub enum Event {
     /// The query was asked.
-    Asked {
-        number: u64,
-        query: Query,
-    },
+    Asked { number: u64, query: Query },
     /// Its delivery was heard.
-    Replied {
-        number: u64,
-    },
+    Replied { number: u64 },
     /// It failed, when it was asked or when it was polled.
-    Failed {
-        number: u64,
-    },
+    Failed { number: u64 },
     /// It was cancelled because it is not wanted.
-    Dropped {
-        number: u64,
-    },
+    Dropped { number: u64 },
 }

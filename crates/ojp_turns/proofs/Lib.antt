@@ -12,3 +12,7 @@ pub mod AskFacts
 pub mod FirstFacts
 pub mod LastFacts
 pub mod SearchFacts
+pub mod TraceFacts
+pub mod TraceAskFacts
+pub mod TracePollFacts
+pub mod TraceTurnFacts

@@ -5,3 +5,4 @@ pub mod Slots
 pub mod Asking
 pub mod Turning
 pub mod Searches
+pub mod Tracing

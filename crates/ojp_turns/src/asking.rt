@@ -12,13 +12,16 @@ ghost use Rattle.ojp_labels.specs.Boards.{IsBoardOf, ask_of, told_of};
 ghost use Rattle.ojp_turns.specs.Held.{HasRegions, NotAmong, StandsIn, query_of};
 ghost use Rattle.ojp_turns.specs.Slots.{IsLastAt, IsNoneAsked};
 ghost use Rattle.ojp_turns.specs.Asking.{AsksMore, AsksSome, IsAsked, IsAsking, StayLive};
+ghost use Rattle.ojp_turns.specs.Tracing.{AsksThis, Grew, IsAskedAs, TracesAsks, TracesThis};
 
 use crate::kept::Kept;
+use crate::tracing::trace_ask;
 use ojp_exchange::Book;
 use ojp_labels::Board;
 use ojp_links::Links;
 use ojp_records::{Query, same_query};
 use ojp_subrequests::{BeginRefused, Subreply};
+use ojp_traces::Trace;
 use ojp_values::{Code, NoMemory};
 use std::alloc::Global;
 use std::collections::VecDeque;
@@ -60,6 +63,14 @@ impl Asked {
             Some(last) => same_query(last, query),
             None => false,
         }
+    }
+
+    // The query that was asked last at the number.
+    fn last_at(&self, number: usize) -> Option<Query>
+        requires { number < length self.now.last.items }
+        ensures { result ≡ slice_index_or self.now.last.items number None }
+    {
+        self.last[number]
     }
 
     // The query was asked at the number.
@@ -110,6 +121,7 @@ fn ask_one<L: Links>(
     ensures rejections { (L.seen links.new).rejections ≡ (L.seen links.old).rejections }
     ensures same { StayLive (L.seen links.old) (L.seen links.new) subs.old.items }
     ensures asked { IfOk result (λ done. IsAsked (L.seen links.old) (L.seen links.new) subs.old.items subs.new.items (told_of board.old) (told_of board.new) query) }
+    ensures numbered { IfOk result (λ done. IsAskedAs number subs.old.items subs.new.items (told_of board.old) (told_of board.new) query) }
     ensures told { OnErr result (told_of board.new ≡ told_of board.old) }
     ensures subs { OnErr result (subs.new.items ≡ subs.old.items) }
 {
@@ -165,6 +177,7 @@ fn ask_at<L: Links>(
     ensures more { AsksMore book.now (ask_of board.old) (L.seen links.old) (L.seen links.new) subs.old.items subs.new.items (told_of board.old) (told_of board.new) }
     ensures some { IfOk result (λ some. AsksSome some asked.old.count asked.new.count (L.seen links.old) (L.seen links.new) subs.old.items subs.new.items (told_of board.old) (told_of board.new)) }
     ensures live { IfOk result (λ some. (query : QueryValue) → slice_index_or (slots book.now (ask_of board.old) (told_of board.new)) number None ≡ Some query → Among query (map query_of subs.new.items)) }
+    ensures this { IfOk result (λ some. AsksThis some book.now (ask_of board.old) number subs.old.items subs.new.items (told_of board.old) (told_of board.new) asked.old.count asked.new.count asked.new.last.items) }
 {
     let Some(query) = board.slot(book, number) else {
         return Ok(false);
@@ -181,14 +194,62 @@ fn ask_at<L: Links>(
     }
 }
 
-/// Asks what is wanted and not live, in the order of the board. Says whether an ask was made.
-pub fn ask_all<L: Links>(
+// Asks what is wanted at the number, unless it is live, and tells the trace. Says whether it did.
+fn ask_next<L: Links>(
+    turn: u64,
     alloc: Global,
     book: &Book,
     board: &mut Board,
     links: &mut L,
     subs: &mut VecDeque<Kept>,
     asked: &mut Asked,
+    number: usize,
+    trace: &mut Trace,
+) -> Result<bool, NoMemory>
+    requires of { IsBoardOf board.old book.now }
+    requires differ { (ask_of board.old).origin ≢ (ask_of board.old).target }
+    requires regions { HasRegions book.now (L.seen links.old) }
+    requires asking { IsAsking book.now (ask_of board.old) (told_of board.old) subs.old.items asked.old.last.items asked.old.count (L.seen links.old) }
+    requires within { number < length book.now.spots + 3 }
+    ensures of { IsBoardOf board.new book.now }
+    ensures ask { ask_of board.new ≡ ask_of board.old }
+    ensures asking { IsAsking book.now (ask_of board.old) (told_of board.new) subs.new.items asked.new.last.items asked.new.count (L.seen links.new) }
+    ensures counts { asked.old.count ≤ asked.new.count }
+    ensures more { AsksMore book.now (ask_of board.old) (L.seen links.old) (L.seen links.new) subs.old.items subs.new.items (told_of board.old) (told_of board.new) }
+    ensures some { IfOk result (λ some. AsksSome some asked.old.count asked.new.count (L.seen links.old) (L.seen links.new) subs.old.items subs.new.items (told_of board.old) (told_of board.new)) }
+    ensures live { IfOk result (λ some. (query : QueryValue) → slice_index_or (slots book.now (ask_of board.old) (told_of board.new)) number None ≡ Some query → Among query (map query_of subs.new.items)) }
+    ensures traced { IfOk result (λ some. TracesThis some turn book.now (ask_of board.old) number subs.old.items subs.new.items (told_of board.old) (told_of board.new) asked.old.count asked.new.count trace.old trace.new) }
+    ensures grew { Grew turn trace.old trace.new }
+{
+    let before = board.told().len();
+    match ask_at(alloc, book, board, links, subs, asked, number) {
+        Ok(some) => {
+            if !some {
+                return Ok(false);
+            }
+            let Some(query) = asked.last_at(number) else {
+                unreachable!();
+            };
+            let refused = board.told().len() > before;
+            match trace_ask(turn, asked.count(), query, refused, trace) {
+                Ok(()) => Ok(true),
+                Err(NoMemory) => Err(NoMemory),
+            }
+        }
+        Err(NoMemory) => Err(NoMemory),
+    }
+}
+
+/// Asks what is wanted and not live, in the order of the board. Says whether an ask was made.
+pub fn ask_all<L: Links>(
+    turn: u64,
+    alloc: Global,
+    book: &Book,
+    board: &mut Board,
+    links: &mut L,
+    subs: &mut VecDeque<Kept>,
+    asked: &mut Asked,
+    trace: &mut Trace,
 ) -> Result<bool, NoMemory>
     requires of { IsBoardOf board.old book.now }
     requires differ { (ask_of board.old).origin ≢ (ask_of board.old).target }
@@ -201,11 +262,13 @@ pub fn ask_all<L: Links>(
     ensures more { AsksMore book.now (ask_of board.old) (L.seen links.old) (L.seen links.new) subs.old.items subs.new.items (told_of board.old) (told_of board.new) }
     ensures some { IfOk result (λ some. AsksSome some asked.old.count asked.new.count (L.seen links.old) (L.seen links.new) subs.old.items subs.new.items (told_of board.old) (told_of board.new)) }
     ensures none_missing { IfOk result (λ some. (query : QueryValue) → Among query (wanted book.now (ask_of board.old) (told_of board.new)) → Among query (map query_of subs.new.items)) }
+    ensures traced { IfOk result (λ some. TracesAsks turn book.now (ask_of board.old) subs.old.items subs.new.items (told_of board.old) (told_of board.new) asked.old.count asked.new.count trace.old trace.new) }
+    ensures grew { Grew turn trace.old trace.new }
 {
     let mut some = false;
     let count = board.slots();
     'asking: for number in 0..count {
-        match ask_at(alloc, book, board, links, subs, asked, number) {
+        match ask_next(turn, alloc, book, board, links, subs, asked, number, trace) {
             Ok(one) => some |= one,
             Err(NoMemory) => return Err(NoMemory),
         }

@@ -6,5 +6,6 @@ mod cancelling;
 pub mod kept;
 mod polling;
 pub mod search;
+mod tracing;
 
 pub use search::{Outcome, Search, Turn};

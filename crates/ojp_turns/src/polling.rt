@@ -8,13 +8,16 @@ ghost use Rattle.ojp_labels.specs.Boards.{IsBoardOf, ask_of, told_of};
 ghost use Rattle.ojp_turns.specs.Held.{IsForIn, StandsIn, key_of};
 ghost use Rattle.ojp_turns.specs.Faults.{RejectsNone};
 ghost use Rattle.ojp_turns.specs.Polling.{EndFits, FirstPolled, Round, Steps, TellsEnd, WholeRound};
+ghost use Rattle.ojp_turns.specs.Tracing.{Grew, TracesEnds, TracesFirst, first_number};
 
 use crate::kept::Kept;
+use crate::tracing::trace_end;
 use ojp_exchange::Book;
 use ojp_labels::Board;
 use ojp_links::Links;
 use ojp_records::Query;
 use ojp_subrequests::{SubEnd, SubPoll};
+use ojp_traces::Trace;
 use ojp_values::NoMemory;
 use std::collections::VecDeque;
 
@@ -110,12 +113,53 @@ fn poll_first<L: Links>(
     }
 }
 
-/// Polls each subrequest once, in the order asked, and tells the board each end. Says whether something came.
-pub fn poll_all<L: Links>(
+// The number of the first subrequest.
+fn first_number(subs: &VecDeque<Kept>) -> u64
+    requires { 0 < length subs.now.items }
+    ensures { result ≡ first_number subs.now.items }
+{
+    subs[0].number
+}
+
+// Polls the first subrequest, and tells the trace its end. Says whether something came.
+fn poll_next<L: Links>(
+    turn: u64,
     book: &Book,
     board: &mut Board,
     links: &mut L,
     subs: &mut VecDeque<Kept>,
+    trace: &mut Trace,
+) -> Result<bool, NoMemory>
+    requires some { 0 < length subs.old.items }
+    requires of { IsBoardOf board.old book.now }
+    requires differ { (ask_of board.old).origin ≢ (ask_of board.old).target }
+    requires stands { StandsIn book.now (ask_of board.old) (told_of board.old) subs.old.items (L.seen links.old) }
+    ensures of { IsBoardOf board.new book.now }
+    ensures ask { ask_of board.new ≡ ask_of board.old }
+    ensures stands { StandsIn book.now (ask_of board.old) (told_of board.new) subs.new.items (L.seen links.new) }
+    ensures polled { FirstPolled book.now (ask_of board.old) (L.seen links.old) (L.seen links.new) subs.old.items subs.new.items (told_of board.old) (told_of board.new) result }
+    ensures traced { IfOk result (λ moved. TracesFirst turn subs.old.items (told_of board.old) (told_of board.new) trace.old trace.new) }
+    ensures err { OnErr result (trace.new ≡ trace.old) }
+{
+    let number = first_number(subs);
+    let before = board.told().len();
+    match poll_first(book, board, links, subs) {
+        Ok(one) => match trace_end(turn, number, board.told(), before, trace) {
+            Ok(()) => Ok(one),
+            Err(NoMemory) => Err(NoMemory),
+        },
+        Err(NoMemory) => Err(NoMemory),
+    }
+}
+
+/// Polls each subrequest once, in the order asked, and tells the board each end. Says whether something came.
+pub fn poll_all<L: Links>(
+    turn: u64,
+    book: &Book,
+    board: &mut Board,
+    links: &mut L,
+    subs: &mut VecDeque<Kept>,
+    trace: &mut Trace,
 ) -> Result<bool, NoMemory>
     requires of { IsBoardOf board.old book.now }
     requires differ { (ask_of board.old).origin ≢ (ask_of board.old).target }
@@ -125,11 +169,13 @@ pub fn poll_all<L: Links>(
     ensures stands { StandsIn book.now (ask_of board.old) (told_of board.new) subs.new.items (L.seen links.new) }
     ensures round { Round book.now (ask_of board.old) (L.seen links.old) (L.seen links.new) subs.old.items subs.new.items (told_of board.old) (told_of board.new) }
     ensures whole { IfOk result (λ moved. WholeRound moved book.now (ask_of board.old) (L.seen links.old) (L.seen links.new) subs.old.items subs.new.items (told_of board.old) (told_of board.new)) }
+    ensures traced { IfOk result (λ moved. TracesEnds turn subs.old.items (told_of board.old) (told_of board.new) trace.old trace.new) }
+    ensures grew { Grew turn trace.old trace.new }
 {
     let mut moved = false;
     let count = subs.len();
     'polling: for _ in 0..count {
-        match poll_first(book, board, links, subs) {
+        match poll_next(turn, book, board, links, subs, trace) {
             Ok(one) => moved |= one,
             Err(NoMemory) => return Err(NoMemory),
         }

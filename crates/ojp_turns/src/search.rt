@@ -7,16 +7,19 @@ ghost use Rattle.ojp_turns.specs.Held.{HasRegions, StandsIn};
 ghost use Rattle.ojp_turns.specs.Slots.{AreAsked, IsWithinBound};
 ghost use Rattle.ojp_turns.specs.Turning.{Passes, Settles};
 ghost use Rattle.ojp_turns.specs.Searches.{CanTurn, EndsAs, IsNewFor, Turns, asks_of, is_done, record_of};
+ghost use Rattle.ojp_turns.specs.Tracing.{Grew, Traces, TracesTurn, turns_of};
 
 use crate::asking::{Asked, ask_all};
 use crate::cancelling::{cancel_all, cancel_rest};
 use crate::kept::Kept;
 use crate::polling::poll_all;
+use crate::tracing::trace_drops;
 use ojp_exchange::Book;
 use ojp_join::joined;
 use ojp_labels::Board;
 use ojp_links::Links;
 use ojp_records::Entry;
+use ojp_traces::Trace;
 use ojp_values::{Fault, List, NoMemory, Trip, TripAsk};
 use std::alloc::Global;
 use std::collections::VecDeque;
@@ -50,6 +53,7 @@ pub struct Search {
     board: Board,
     subs: VecDeque<Kept>,
     asked: Asked,
+    turns: u64,
     done: bool,
 }
 
@@ -57,7 +61,8 @@ impl Search {
     /// A search that has asked nothing yet.
     pub fn new(alloc: Global, book: &Book, ask: &TripAsk) -> Result<Search, NoMemory>
         requires { ask.now.origin ≢ ask.now.target }
-        ensures { IfOk result (IsNewFor book.now ask.now) }
+        ensures new { IfOk result (IsNewFor book.now ask.now) }
+        ensures no_turn { IfOk result (λ s. turns_of s ≡ 0) }
     {
         let Ok(board) = Board::new(alloc, book, ask) else {
             return Err(NoMemory);
@@ -70,23 +75,29 @@ impl Search {
             board,
             subs: VecDeque::new(alloc),
             asked,
+            turns: 0,
             done: false,
         })
     }
 
     /// One turn: polls each live subrequest once, in the order asked, cancels those that are no longer wanted, and asks
-    /// what is wanted and not live. Where nothing is live then, the search is done.
-    pub fn turn<L: Links>(&mut self, book: &Book, links: &mut L) -> Turn
+    /// what is wanted and not live. Where nothing is live then, the search is done. A trace that is on gains a line for each
+    /// of these events.
+    pub fn turn<L: Links>(&mut self, book: &Book, links: &mut L, trace: &mut Trace) -> Turn
         requires { CanTurn book.now self.old (L.seen links.old) }
-        ensures { Turns book.now (L.seen links.old) (L.seen links.new) self.old self.new result }
+        ensures turns { Turns book.now (L.seen links.old) (L.seen links.new) self.old self.new result }
+        ensures traces { Traces book.now self.old self.new trace.old trace.new result }
     {
+        self.turns = self.turns.saturating_add(1);
         let stepped = run_turn(
+            self.turns,
             self.alloc,
             book,
             &mut self.board,
             links,
             &mut self.subs,
             &mut self.asked,
+            trace,
         );
         match stepped {
             Ok(moved) => {
@@ -130,12 +141,14 @@ impl Search {
 
 // One turn over the parts of a search. Says whether something moved.
 fn run_turn<L: Links>(
+    turn: u64,
     alloc: Global,
     book: &Book,
     board: &mut Board,
     links: &mut L,
     subs: &mut VecDeque<Kept>,
     asked: &mut Asked,
+    trace: &mut Trace,
 ) -> Result<bool, NoMemory>
     requires of { IsBoardOf board.old book.now }
     requires differ { (ask_of board.old).origin ≢ (ask_of board.old).target }
@@ -151,12 +164,17 @@ fn run_turn<L: Links>(
     ensures passes { Passes book.now (ask_of board.old) (L.seen links.old) (L.seen links.new) subs.old.items (told_of board.old) (told_of board.new) }
     ensures asked { IfOk result (λ moved. AreAsked book.now (ask_of board.old) (told_of board.new) subs.new.items asked.new.last.items) }
     ensures settles { IfOk result (λ moved. Settles moved book.now (ask_of board.old) (L.seen links.old) (L.seen links.new) subs.old.items subs.new.items asked.old.count asked.new.count (told_of board.old) (told_of board.new)) }
+    ensures traced { IfOk result (λ moved. TracesTurn turn book.now (ask_of board.old) subs.old.items subs.new.items (told_of board.old) (told_of board.new) asked.old.count asked.new.count trace.old trace.new) }
+    ensures grew { Grew turn trace.old trace.new }
 {
-    let Ok(came) = poll_all(book, board, links, subs) else {
+    let Ok(came) = poll_all(turn, book, board, links, subs, trace) else {
+        return Err(NoMemory);
+    };
+    let Ok(()) = trace_drops(turn, book, board, subs, trace) else {
         return Err(NoMemory);
     };
     let cancelled = cancel_all(book, board, links, subs);
-    let Ok(some) = ask_all(alloc, book, board, links, subs, asked) else {
+    let Ok(some) = ask_all(turn, alloc, book, board, links, subs, asked, trace) else {
         return Err(NoMemory);
     };
     Ok(came | cancelled | some)

@@ -1,6 +1,7 @@
-use Rattle.std.proofs.Common.{◌<◌, ◌+◌, ◌^◌, sym, arith}
+use Rattle.std.proofs.Common.{ℕ, ◌<◌, ◌+◌, ◌^◌, sym, ap, arith}
 use Rattle.ojp_labels.specs.Boards.{ask_of, told_of}
 use Rattle.ojp_turns.proofs.AskFacts.{asks_none, asks_lost, asking_lost, last_live, slot_is_wanted, slot_missing, count_fits, slot_more, slot_asking, slot_live}
+use Rattle.ojp_turns.proofs.TraceAskFacts.{asks_this}
 use Rattle.ojp_turns.proofs.asking.ask_at.Goals as goal
 
 pub returns-in_default-clause-more : goal.returns-in_default-clause-more
@@ -63,3 +64,12 @@ pub returns-in-Err-clause-more : goal.returns-in-Err-clause-more
 returns-in-Err-clause-more g c =
     asks_lost c.args.book.now (ask_of c.args.board.now) (g.L.Links.seen c.args.links.now) (g.L.Links.seen c.ask_one.new.links) c.args.subs.now.items c.ask_one.new.subs.items (told_of c.args.board.now) (told_of c.ask_one.new.board)
     c.in-Err.ensures.keeps c.in-Err.ensures.rejections c.in-Err.ensures.same c.in-Err.ensures.subs c.in-Err.ensures.told
+
+pub returns-in-Ok-clause-this : goal.returns-in-Ok-clause-this
+returns-in-Ok-clause-this g c =
+    asks_this c.args.book.now (ask_of c.args.board.now) (told_of c.args.board.now) (told_of c.ask_one.new.board) c.args.subs.now.items c.ask_one.new.subs.items c.args.asked.now.last.items c.note.new.self.last.items
+    c.args.asked.now.count c.note.new.self.count _ c.args.number c.in-Some.query
+    (omega (arith, c.requires.within, c.requires.asking.asked.count)) (sym c.in-Some.ensures)
+    (slot_missing c.args.book.now (ask_of c.args.board.now) (told_of c.args.board.now) (told_of c.args.board.now) (g.L.Links.seen c.args.links.now) (g.L.Links.seen c.args.links.now) c.args.subs.now.items c.args.subs.now.items c.args.asked.now.last.items c.args.asked.now.count
+    c.args.number c.in-Some.query c.requires.of.book_well c.requires.of.origin_well c.requires.differ c.requires.of.record_of c.requires.asking c.requires.within (sym c.in-Some.ensures) c.is_last.result c.if-is_last.false c.is_last.ensures)
+    c.note.ensures.last c.note.ensures.count (ap (λ (k : ℕ). k + 1) c.count.ensures) c.in-Ok.ensures.numbered

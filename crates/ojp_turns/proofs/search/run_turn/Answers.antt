@@ -9,6 +9,9 @@ use Rattle.ojp_turns.specs.Asking.{is_still_wanted, Cancels, IsAsking, AsksMore}
 use Rattle.ojp_turns.proofs.AskFacts.{regions_kept}
 use Rattle.ojp_turns.proofs.PollFacts.{keeps_on}
 use Rattle.ojp_turns.proofs.TurnFacts.{passes_round, passes_turn, settles, asking_next}
+use Rattle.ojp_turns.specs.Tracing.{Adds, drops_of, TracesAsks}
+use Rattle.ojp_turns.proofs.TraceFacts.{grew_on}
+use Rattle.ojp_turns.proofs.TraceTurnFacts.{live_goes, traces_turn}
 use Rattle.ojp_turns.proofs.search.run_turn.Goals as goal
 
 pub returns-in_default-clause-passes : goal.returns-in_default-clause-passes
@@ -61,3 +64,29 @@ returns-clause-settles g c =
     (subst (λ (ask : TripAsk). AsksMore c.args.book.now ask (g.L.Links.seen c.cancel_all-cancelled.new.links) (g.L.Links.seen c.ask_all.new.links) c.cancel_all-cancelled.new.subs.items c.ask_all.new.subs.items (told_of c.poll_all.new.board) (told_of c.ask_all.new.board)) same c.ask_all.ensures.more)
     c.in-Ok-ask_all.ensures.some asking.all_wanted c.requires.stands asking.stands c.cancel_all-cancelled.ensures.patience
     (subst (λ (ask : TripAsk). (query : Query) → Among query (wanted c.args.book.now ask (told_of c.ask_all.new.board)) → Among query (map query_of c.ask_all.new.subs.items)) same c.in-Ok-ask_all.ensures.none_missing)
+
+pub returns-clause-traced : goal.returns-clause-traced
+returns-clause-traced g c =
+    let same : ask_of c.poll_all.new.board ≡ ask_of c.args.board.now = c.poll_all.ensures.ask in
+    traces_turn c.args.turn c.args.book.now (ask_of c.args.board.now) c.args.subs.now.items c.poll_all.new.subs.items c.cancel_all-cancelled.new.subs.items c.ask_all.new.subs.items (told_of c.args.board.now) (told_of c.poll_all.new.board) (told_of c.ask_all.new.board)
+    c.args.asked.now.count c.ask_all.new.asked.count c.args.trace.now c.poll_all.new.trace c.trace_drops.new.trace c.ask_all.new.trace c.in-Ok.ensures.traced
+    (live_goes c.args.book.now (ask_of c.args.board.now) (g.L.Links.seen c.args.links.now) (g.L.Links.seen c.poll_all.new.links) c.args.subs.now.items c.poll_all.new.subs.items (told_of c.args.board.now) (told_of c.poll_all.new.board) c.in-Ok.came c.in-Ok.ensures.whole c.poll_all.ensures.stands)
+    (subst (λ (ask : TripAsk). Adds c.args.turn c.poll_all.new.trace c.trace_drops.new.trace (drops_of c.args.book.now ask (told_of c.poll_all.new.board) c.poll_all.new.subs.items)) same c.in-Ok-trace_drops.ensures.ok)
+    (subst (λ (ask : TripAsk). c.cancel_all-cancelled.new.subs.items ≡ filter (is_still_wanted c.args.book.now ask (told_of c.poll_all.new.board)) c.poll_all.new.subs.items) same c.cancel_all-cancelled.ensures.kept)
+    (subst (λ (ask : TripAsk). TracesAsks c.args.turn c.args.book.now ask c.cancel_all-cancelled.new.subs.items c.ask_all.new.subs.items (told_of c.poll_all.new.board) (told_of c.ask_all.new.board) c.args.asked.now.count c.ask_all.new.asked.count c.trace_drops.new.trace c.ask_all.new.trace) same c.in-Ok-ask_all.ensures.traced)
+
+pub returns-in_default-trace_drops-clause-passes : goal.returns-in_default-trace_drops-clause-passes
+returns-in_default-trace_drops-clause-passes g c =
+    passes_round c.args.book.now (ask_of c.args.board.now) (g.L.Links.seen c.args.links.now) (g.L.Links.seen c.poll_all.new.links) (g.L.Links.seen c.poll_all.new.links) (g.L.Links.seen c.poll_all.new.links)
+    c.args.subs.now.items c.poll_all.new.subs.items c.poll_all.new.subs.items c.poll_all.new.subs.items (told_of c.args.board.now) (told_of c.poll_all.new.board) (told_of c.poll_all.new.board) c.poll_all.ensures.round
+
+pub returns-in_default-trace_drops-clause-grew : goal.returns-in_default-trace_drops-clause-grew
+returns-in_default-trace_drops-clause-grew g c = grew_on c.args.turn c.args.trace.now c.poll_all.new.trace c.trace_drops.new.trace c.poll_all.ensures.grew c.trace_drops.ensures.grew
+
+pub returns-in_default-ask_all-clause-grew : goal.returns-in_default-ask_all-clause-grew
+returns-in_default-ask_all-clause-grew g c =
+    grew_on c.args.turn c.args.trace.now c.trace_drops.new.trace c.ask_all.new.trace (grew_on c.args.turn c.args.trace.now c.poll_all.new.trace c.trace_drops.new.trace c.poll_all.ensures.grew c.trace_drops.ensures.grew) c.ask_all.ensures.grew
+
+pub returns-clause-grew : goal.returns-clause-grew
+returns-clause-grew g c =
+    grew_on c.args.turn c.args.trace.now c.trace_drops.new.trace c.ask_all.new.trace (grew_on c.args.turn c.args.trace.now c.poll_all.new.trace c.trace_drops.new.trace c.poll_all.ensures.grew c.trace_drops.ensures.grew) c.ask_all.ensures.grew
