@@ -8,3 +8,4 @@ pub mod LearnFacts
 pub mod LengthFacts
 pub mod ServedFacts
 pub mod AnsweringFacts
+pub mod TraceFacts

@@ -4,6 +4,7 @@ ghost use Rattle.std.specs.Prelude.{◌≡◌, [], IfOk, true};
 ghost use Rattle.ojp_values.specs.Limits.{IsWellDelivery};
 ghost use Rattle.ojp_values.specs.declared.asks.Ask.TheVariants as asks;
 ghost use Rattle.ojp_links.specs.Seen.{NoneLive};
+ghost use Rattle.ojp_traces.specs.Lines.{Gains};
 ghost use Rattle.ojp_turns.specs.Held.{HasRegions};
 ghost use Rattle.ojp_turns.specs.Searches.{is_done};
 ghost use Rattle.ojp_gateway.specs.Answers.{PointsByBook, delivery_of_points};
@@ -13,6 +14,7 @@ use crate::seeking::seek_paced;
 use ojp_exchange::Book;
 use ojp_links::PacedLinks;
 use ojp_records::Entry;
+use ojp_traces::Trace;
 use ojp_turns::{Outcome, Search};
 use ojp_values::{
     Ask, Delivery, EventsReply, Fault, List, MultiReply, NoMemory, Point, PointsAsk, PointsReply,
@@ -28,7 +30,7 @@ pub struct Answer {
     pub told: List<Entry>,
 }
 
-/// Answers an ask over paced links.
+/// Answers an ask over paced links. A trace that is on gains the lines of the search, where there is one.
 ///
 /// # Errors
 ///
@@ -38,15 +40,17 @@ pub fn answer_paced<L: PacedLinks>(
     book: &Book,
     links: &mut L,
     ask: &Ask,
+    trace: &mut Trace,
 ) -> Result<Answer, NoMemory>
     requires regions { HasRegions book.now (L.seen links.old) }
     requires none_live { NoneLive (L.seen links.old) }
-    ensures { AnswersAsk book.now (L.seen links.old) (L.seen links.new) ask.now result }
+    ensures answers { AnswersAsk book.now (L.seen links.old) (L.seen links.new) ask.now result }
+    ensures gains { Gains trace.old trace.new }
 {
     match begin(alloc, book, ask)? {
         Begun::Answered(answer) => Ok(answer),
         Begun::Search(mut search) => {
-            let outcome = seek_paced(book, links, &mut search);
+            let outcome = seek_paced(book, links, &mut search, trace);
             conclude(search, outcome)
         }
     }

@@ -15,6 +15,7 @@ use ojp_http::{Served, give_up};
 use ojp_links::{PacedLinks, Runtime, WaitLinks};
 use ojp_outside::{Sink, Source};
 use ojp_records::Entry;
+use ojp_traces::Trace;
 use ojp_values::{List, NoMemory};
 use std::alloc::Global;
 
@@ -40,7 +41,11 @@ pub fn serve_paced<L: PacedLinks, I: Source, O: Sink>(
         (wire (I.seen input.old) (O.seen output.old)) (wire (I.seen input.new) (O.seen output.new)) result.served result.told }
 {
     match take_ask(alloc, input) {
-        Ok(ask) => conclude(alloc, answer_paced(alloc, book, links, &ask), output),
+        Ok(ask) => {
+            let mut trace = Trace::off(alloc);
+            let answer = answer_paced(alloc, book, links, &ask, &mut trace);
+            conclude(alloc, answer, output)
+        }
         Err(declined) => without_record(alloc, decline(alloc, declined, output)),
     }
 }

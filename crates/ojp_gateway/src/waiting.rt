@@ -9,6 +9,7 @@ ghost use Rattle.ojp_gateway.specs.Answering.{AnswersAsk};
 use crate::answering::{Answer, Begun, begin, conclude};
 use ojp_exchange::Book;
 use ojp_links::{Runtime, WaitLinks};
+use ojp_traces::Trace;
 use ojp_turns::{Outcome, Search, Turn};
 use ojp_values::{Ask, NoMemory};
 use std::alloc::Global;
@@ -32,7 +33,8 @@ pub fn answer_waiting<R: Runtime, L: WaitLinks>(
     match begin(alloc, book, ask)? {
         Begun::Answered(answer) => Ok(answer),
         Begun::Search(mut search) => {
-            let outcome = seek_waiting(rt, book, links, &mut search);
+            let mut trace = Trace::off(alloc);
+            let outcome = seek_waiting(rt, book, links, &mut search, &mut trace);
             conclude(search, outcome)
         }
     }
@@ -44,12 +46,13 @@ fn seek_waiting<R: Runtime, L: WaitLinks>(
     book: &Book,
     links: &mut L,
     search: &mut Search,
+    trace: &mut Trace,
 ) -> Outcome
     requires { CanTurn book.now search.old (L.seen links.old) }
     ensures { Sought book.now (L.seen links.old) (L.seen links.new) search.old search.new result }
 {
     'searching: for _ in rt.forever() {
-        match search.turn(book, links) {
+        match search.turn(book, links, trace) {
             Turn::Moved => {}
             Turn::Waits => {
                 // The loop has the runtime lent, so that the links are lent a reference to it.

@@ -1,5 +1,5 @@
 -- The lines of a trace, one for each event.
-use Rattle.std.specs.Prelude.{ℕ, Bool, true, false, List, [], ◌++◌, codes}
+use Rattle.std.specs.Prelude.{◌≡◌, ℕ, Bool, true, false, List, [], ◌++◌, codes}
 use Rattle.std.specs.List.{flat_map}
 use Rattle.std.specs.Fmt.{decimal}
 use Rattle.ojp_values.specs.Texts.{Text}
@@ -51,3 +51,9 @@ shown false text = []
 -- the trace with the text behind its lines, where it is on
 abbrev pub with_text : TraceView → Text → TraceView
 with_text trace text = record { on = trace.on; lines = trace.lines ++ shown trace.on text }
+
+-- the trace gained a text behind its lines; one that is off is as it was
+pub record Gains (old new : TraceView) : Type 0 where
+  pub text : Text
+  pub is : new ≡ with_text old text
+  pub stays_off : old.on ≡ false → new ≡ old

@@ -1,5 +1,5 @@
 -- The lines of the asks of a turn.
-use Rattle.std.proofs.Common.{◌≡◌, ◌≢◌, ℕ, zero, suc, ◌+◌, ◌<◌, ◌≤◌, ◌⊎◌, Bool, true, false, ◌||◌, not, List, [], ◌∷◌, ◌++◌, map, filter, set, length, take, get_or, cond, ltb, Option, Some, None, IsTrue, refl, sym, ◌∙◌, ap, subst, inl, inr, append-nil, append_assoc, length-append, arith, get_or-set_same, take-suc}
+use Rattle.std.proofs.Common.{◌≡◌, ◌≢◌, ℕ, suc, ◌+◌, ◌<◌, ◌≤◌, ◌⊎◌, Bool, true, false, not, List, [], ◌∷◌, ◌++◌, map, filter, set, length, take, get_or, cond, ltb, Option, Some, None, IsTrue, refl, sym, ◌∙◌, ap, subst, inl, inr, append-nil, append_assoc, length-append, arith, get_or-set_same, take-suc}
 use Rattle.std.proofs.lemmas.Bool.{true≢false, cases_Bool, lt-ltb, le-ltb}
 use Rattle.std.proofs.lemmas.Option.{same_Some, slice_get-get_or, get_or_from_slice_get}
 use Rattle.std.proofs.lemmas.List.{map-append, length-set, take_all}
@@ -12,12 +12,12 @@ use Rattle.ojp_exchange.specs.Kept.{IsWellBook}
 use Rattle.ojp_links.specs.Seen.{View}
 use Rattle.ojp_records.specs.declared.queries.Query.{Query}
 use Rattle.ojp_records.specs.declared.queries.Entry.{Entry}
-use Rattle.ojp_values.proofs.ListFacts.{among_append, among_append_left, among_append_right, among_filter, among_filter_back, among_map}
+use Rattle.ojp_values.proofs.ListFacts.{among_append, among_append_left, among_append_right, among_filter}
 use Rattle.ojp_records.specs.Records.{Failed as HasFailed, is_told, is_failed, same_query}
 use Rattle.ojp_records.proofs.RecordFacts.{failed_is, is_failed_is, is_told_is, same_query_is, told_more}
 use Rattle.ojp_records.proofs.FailFacts.{failure_drops_one}
 use Rattle.ojp_records.specs.Wanted.{wanted}
-use Rattle.ojp_records.proofs.BoardFacts.{is_failed_append, wanted_is_untold}
+use Rattle.ojp_records.proofs.BoardFacts.{wanted_is_untold}
 use Rattle.ojp_labels.specs.Slots.{slots, somes}
 use Rattle.ojp_labels.proofs.SlotFacts.{slot_wanted, slots_length, slots_wanted}
 use Rattle.ojp_traces.specs.declared.events.Event.{Event}
@@ -29,7 +29,7 @@ use Rattle.ojp_turns.specs.Held.{NotAmong, query_of}
 use Rattle.ojp_turns.specs.Slots.{IsLastAt, MayStandAt}
 use Rattle.ojp_turns.specs.Asking.{AsksSome}
 use Rattle.ojp_turns.specs.Tracing.{Adds, Grew, live_ask, live_asks, IsAskedAs, AsksAt, AsksThis, TracesThis, asked_events, missing_queries, TracesAsks}
-use Rattle.ojp_turns.proofs.AskedFacts.{among_is, is_among_is, told_unwanted, fails_none_new}
+use Rattle.ojp_turns.proofs.AskedFacts.{among_is, is_among_is}
 use Rattle.ojp_turns.proofs.NumberFacts.{slot_stands, stands_once, wanted_stands}
 use Rattle.ojp_turns.proofs.TraceFacts.{adds_none, adds_on}
 

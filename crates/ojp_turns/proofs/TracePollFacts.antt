@@ -1,12 +1,12 @@
 -- The lines of the polls of a turn.
-use Rattle.std.proofs.Common.{◌≡◌, ◌≢◌, ℕ, ◌+◌, ◌<◌, ◌⊎◌, Bool, true, false, cond, List, [], ◌∷◌, ◌++◌, map, length, Result, Option, Some, None, refl, sym, ◌∙◌, ap, subst, inl, inr, append-nil, append_assoc, arith}
+use Rattle.std.proofs.Common.{◌≡◌, ℕ, ◌<◌, Bool, cond, List, [], ◌∷◌, ◌++◌, map, length, Result, refl, sym, ◌∙◌, ap, subst, inl, inr, append-nil, append_assoc, arith}
 use Rattle.std.specs.List.{filter_map}
 use Rattle.std.specs.Option.{option_to_list}
 use Rattle.std.proofs.lemmas.List.{map-append, length-map, append_cancel_left}
 use Rattle.ojp_values.specs.Lists.{Among, Each}
 use Rattle.ojp_values.specs.declared.NoMemory.{NoMemory}
 use Rattle.ojp_values.specs.declared.asks.TripAsk.{TripAsk}
-use Rattle.ojp_values.proofs.ListFacts.{among_append_left, among_append_right, among_map}
+use Rattle.ojp_values.proofs.ListFacts.{among_append_right, among_map}
 use Rattle.ojp_exchange.specs.Book.{Book}
 use Rattle.ojp_links.specs.Seen.{View}
 use Rattle.ojp_records.specs.declared.queries.Query.{Query}

@@ -1,5 +1,5 @@
 -- The lines of a whole turn.
-use Rattle.std.proofs.Common.{◌≡◌, ◌≢◌, ℕ, ◌+◌, Bool, true, false, cond, not, List, [], ◌∷◌, ◌++◌, map, filter, length, Option, Some, None, refl, sym, ◌∙◌, ap, subst, inl, inr, append-nil, append_assoc, arith}
+use Rattle.std.proofs.Common.{◌≡◌, ℕ, ◌+◌, Bool, true, false, cond, not, List, [], ◌∷◌, ◌++◌, map, filter, length, refl, sym, ◌∙◌, ap, subst, inl, inr, append-nil}
 use Rattle.std.specs.List.{filter_map}
 use Rattle.std.proofs.lemmas.Bool.{true≢false, cases_Bool}
 use Rattle.ojp_values.specs.Lists.{Among, Each}
@@ -13,7 +13,6 @@ use Rattle.ojp_records.specs.Records.{is_told}
 use Rattle.ojp_records.specs.Wanted.{wanted}
 use Rattle.ojp_records.proofs.BoardFacts.{wanted_is_untold}
 use Rattle.ojp_records.proofs.RecordFacts.{is_told_is}
-use Rattle.ojp_traces.specs.declared.events.Event.{Event}
 use Rattle.ojp_traces.specs.Lines.{TraceView}
 use Rattle.ojp_traces.specs.TurnEvents.{LiveAsk, asked_query, is_among, going_on, is_wanted, drop_event, end_event, drop_events, new_queries, ask_events, begun_asks, live_after}
 use Rattle.ojp_turns.specs.declared.kept.Kept.{Kept}

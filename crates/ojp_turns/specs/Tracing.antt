@@ -1,5 +1,5 @@
 -- What a turn adds to the trace of its search.
-use Rattle.std.specs.Prelude.{◌≡◌, ◌⊎◌, ℕ, ◌+◌, Bool, true, false, List, [], ◌∷◌, ◌++◌, map, filter, length, drop, get_or, not, Option, Some, None}
+use Rattle.std.specs.Prelude.{◌≡◌, ◌⊎◌, ℕ, ◌+◌, Bool, true, false, List, [], ◌∷◌, ◌++◌, map, filter, length, get_or, not, Option, Some, None}
 use Rattle.ojp_outside.specs.Causes.{next_count}
 use Rattle.ojp_values.specs.Lists.{Among, Each}
 use Rattle.ojp_values.specs.declared.asks.TripAsk.{TripAsk}
@@ -13,7 +13,6 @@ use Rattle.ojp_traces.specs.declared.events.Event.TheVariants.{Asked, Failed}
 use Rattle.ojp_traces.specs.Lines.{TraceView, event_lines, with_text}
 use Rattle.ojp_traces.specs.TurnEvents.{LiveAsk, asked_query, ended, end_event, is_among, is_wanted, drop_event, new_queries, ask_event, ask_events, turn_events, begun_asks, live_after}
 use Rattle.ojp_turns.specs.declared.kept.Kept.{Kept}
-use Rattle.ojp_turns.specs.declared.search.Outcome.{Outcome}
 use Rattle.ojp_turns.specs.declared.search.Outcome.TheVariants as outcomes
 use Rattle.ojp_turns.specs.declared.search.Search.{Search}
 use Rattle.ojp_turns.specs.declared.search.Turn.{Turn}

@@ -1,38 +1,44 @@
 use Rattle.std.proofs.Common.{arith, rules}
 use Rattle.ojp_gateway.proofs.SeekFacts.{seeks_start, seeks_on, seeks_end, too_many}
+use Rattle.ojp_gateway.proofs.TraceFacts.{gains_none, gains_on}
 use Rattle.ojp_gateway.proofs.seeking.seek_paced.Goals as goal
 
 pub searching-init : goal.searching-init
-searching-init g c = record { seeks = seeks_start c.args.book.now (g.L.Links.seen c.args.links.now) c.args.search.now c.requires; counted = omega arith }
+searching-init g c = record { seeks = seeks_start c.args.book.now (g.L.Links.seen c.args.links.now) c.args.search.now c.requires; counted = omega arith; gains = gains_none c.args.trace.now }
 
 pub hearing-init : goal.hearing-init
-hearing-init g c = record { seeks = c.searching.invariant.seeks; as_before = c.asks-before.ensures }
+hearing-init g c = record { seeks = c.searching.invariant.seeks; as_before = c.asks-before.ensures; gains = c.searching.invariant.gains }
 
-pub returns-in-Some : goal.returns-in-Some
-returns-in-Some g c =
+pub returns-in-Some-clause-sought : goal.returns-in-Some-clause-sought
+returns-in-Some-clause-sought g c =
     seeks_end c.args.book.now (g.L.Links.seen c.args.links.now) (g.L.Links.seen c.hearing.links) (g.L.Links.seen c.step_paced.new.links) c.args.search.now c.hearing.search c.step_paced.new.search c.in-Some.outcome
-    c.hearing.invariant.seeks c.in-Some.ensures
+    c.hearing.invariant.seeks c.in-Some.ensures.steps
 
 pub hearing-preserved : goal.hearing-preserved
 hearing-preserved g c =
     record {
       seeks = seeks_on c.args.book.now (g.L.Links.seen c.args.links.now) (g.L.Links.seen c.hearing.links) (g.L.Links.seen c.step_paced.new.links) c.args.search.now c.hearing.search c.step_paced.new.search
-          c.hearing.invariant.seeks c.in-None.ensures;
+          c.hearing.invariant.seeks c.in-None.ensures.steps;
       as_before = first_of (search rules, grind (arith, rules));
+      gains = gains_on c.args.trace.now c.hearing.trace c.step_paced.new.trace c.hearing.invariant.gains c.in-None.ensures.gains;
     }
 
 pub hearing-smaller : goal.hearing-smaller
-hearing-smaller g c = c.in-None.ensures.falls (first_of (search rules, grind (arith, rules)))
+hearing-smaller g c = c.in-None.ensures.steps.falls (first_of (search rules, grind (arith, rules)))
 
 pub searching-preserved : goal.searching-preserved
 searching-preserved g c =
     record {
       seeks = seeks_on c.args.book.now (g.L.Links.seen c.args.links.now) (g.L.Links.seen c.hearing.links) (g.L.Links.seen c.step_paced.new.links) c.args.search.now c.hearing.search c.step_paced.new.search
-          c.hearing.invariant.seeks c.in-None.ensures;
+          c.hearing.invariant.seeks c.in-None.ensures.steps;
       counted = first_of (search rules, grind (arith, rules));
+      gains = gains_on c.args.trace.now c.hearing.trace c.step_paced.new.trace c.hearing.invariant.gains c.in-None.ensures.gains;
     }
 
 pub unreachable-requires : goal.unreachable-requires
 unreachable-requires g c =
     let few = too_many c.args.book.now (g.L.Links.seen c.args.links.now) (g.L.Links.seen c.searching.links) c.args.search.now c.searching.search c.searching.counter c.searching.invariant.seeks c.searching.invariant.counted in
     first_of (search rules, grind (arith, rules, few))
+
+pub returns-in-Some-clause-gains : goal.returns-in-Some-clause-gains
+returns-in-Some-clause-gains g c = gains_on c.args.trace.now c.hearing.trace c.step_paced.new.trace c.hearing.invariant.gains c.in-Some.ensures.gains

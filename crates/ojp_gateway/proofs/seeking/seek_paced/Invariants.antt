@@ -1,4 +1,5 @@
 use Rattle.std.proofs.Common.{◌≡◌, ◌≤◌}
+use Rattle.ojp_traces.specs.Lines.{Gains}
 use Rattle.ojp_turns.specs.Searches.{asks_of}
 use Rattle.ojp_gateway.specs.Passing.{work_left}
 use Rattle.ojp_gateway.proofs.SeekFacts.{SeeksOn}
@@ -8,12 +9,14 @@ abbrev pub invariant-searching : goal.invariant-searching
 invariant-searching g l = record {
   seeks : SeeksOn l.book (g.L.Links.seen l.fn.links) (g.L.Links.seen l.links) l.fn.search l.search;
   counted : l.counter ≤ asks_of l.search;
+  gains : Gains l.fn.trace l.trace;
 }
 
 abbrev pub invariant-hearing : goal.invariant-hearing
 invariant-hearing g l = record {
   seeks : SeeksOn l.book (g.L.Links.seen l.fn.links) (g.L.Links.seen l.links) l.fn.search l.search;
   as_before : l.before ≡ asks_of l.search;
+  gains : Gains l.fn.trace l.trace;
 }
 
 abbrev pub decreases-hearing : goal.decreases-hearing

@@ -6,9 +6,9 @@ use Rattle.ojp_gateway.proofs.serving.serve_paced.Goals as goal
 
 pub returns-in-Ok : goal.returns-in-Ok
 returns-in-Ok g c =
-    serves_answered c.args.book.now (g.L.Links.seen c.args.links.now) (g.L.Links.seen c.answer_paced.new.links)
+    serves_answered c.args.book.now (g.L.Links.seen c.args.links.now) (g.L.Links.seen c.answer_paced-answer.new.links)
     (wire (g.I.Source.seen c.args.input.now) (g.O.Sink.seen c.args.output.now)) (wire (g.I.Source.seen c.take_ask.new.input) (g.O.Sink.seen c.conclude.new.output))
-    c.conclude.result.served c.conclude.result.told c.in-Ok.ask c.answer_paced.result c.in-Ok.ensures c.answer_paced.ensures c.conclude.ensures
+    c.conclude.result.served c.conclude.result.told c.in-Ok.ask c.answer_paced-answer.result c.in-Ok.ensures c.answer_paced-answer.ensures.answers c.conclude.ensures
 
 pub returns-in-Err : goal.returns-in-Err
 returns-in-Err g c =
