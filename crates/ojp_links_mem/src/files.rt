@@ -1,6 +1,6 @@
 //! Links to the regions of files.
 
-ghost use Rattle.std.specs.Prelude.{◌≡◌, ◌<◌, ◌≤◌, false, length, refl, true};
+ghost use Rattle.std.specs.Prelude.{◌≡◌, ◌<◌, ◌≤◌, false, length, refl};
 ghost use Rattle.ojp_links.specs.Seen.{IsLive, NoneLive};
 ghost use Rattle.ojp_links.specs.Calls.{Asks, Closes, Looks, MayReject, Rejects, RestsOnce};
 ghost use Rattle.ojp_links_mem.specs.Memory.{AsksBy, ClosesBy, GivesBy, RejectsBy, RestsBy};
@@ -122,7 +122,6 @@ impl<F: Store + Drop> FileLinks<F> {
 
     /// Counts asks from 1 again, in the new order.
     pub fn renumber(&mut self, order: u64)
-        requires is_open { self.old.is_open ≡ true }
         requires none_live { NoneLive (links_seen self.old) }
         requires low { order ≤ 10 }
         ensures { RenumbersFiles (files_seen F.seen self.old) (files_seen F.seen self.new) order }
