@@ -1,4 +1,3 @@
-pub mod PlanFacts
 pub mod CheckFacts
 pub mod RunFacts
 pub mod RegionFacts

@@ -3,32 +3,55 @@ use Rattle.std.proofs.Common.{◌≡◌, ℕ, ◌⊎◌, Option, Some, Result, i
 use Rattle.ojp_values.specs.Texts.{Text}
 use Rattle.ojp_outside.specs.Seen.{SourceView, SinkView, StoreView}
 use Rattle.ojp_steps.specs.Lent.{Lent, IsUnused}
-use Rattle.ojp_cli.specs.Words.{Command, Plan, Check, Region}
+use Rattle.ojp_cli.specs.Words.{Command, Plan, Check, Region, IsOrder}
 use Rattle.ojp_steps.specs.Endings.{Ends, Concludes}
 use Rattle.ojp_steps.proofs.EndFacts.{ends_as}
-use Rattle.ojp_cli.specs.Runs.{IsDue, AreNumbers, RunsNetAs, IsNetDue}
-use Rattle.ojp_cli.specs.Plans.{Planned, PlanFails}
+use Rattle.ojp_cli.specs.Runs.{IsDue, AreNumbers, PlanDue, RunsAs, RunsNetAs, IsNetDue}
+use Rattle.ojp_links_mem.specs.Files.{FilesView}
+use Rattle.ojp_plan.specs.Plans.{Planned, PlanFails}
+use Rattle.ojp_plan.proofs.DueFacts.{due_to_plan}
 use Rattle.ojp_cli.specs.Checks.{Checked, CheckFails}
 use Rattle.ojp_steps.specs.Serving.{DoorsSeen}
 use Rattle.ojp_cli.specs.Regions.{RegionServed, RegionFails}
-use Rattle.ojp_cli.proofs.PlanFacts.{due_to_plan}
 use Rattle.ojp_cli.proofs.CheckFacts.{due_to_check}
 use Rattle.ojp_cli.proofs.RegionFacts.{due_to_region}
 use Rattle.ojp_steps.specs.declared.failures.Failure.{Failure}
 
--- the status that is due to `plan`
-pub due_if_plan : {I O E F : Type 0} (named : Option Command) (file : Text) (input : Lent I SourceView) (output : Lent O SinkView) (faults : Lent E SinkView) (store : Lent F StoreView)
-    (ended : Result (Unit {0}) Failure) (result : ℕ) → named ≡ Some (Plan file) → Ends (Planned file store input output) (PlanFails file store input output) ended → Concludes ended faults result
-    → (status : ℕ) → IsDue named input output store status → (result ≡ 5) ⊎ (result ≡ status)
-due_if_plan named file input output faults store ended result e ends concludes status due =
-    due_to_plan file store input output ended faults result status ends concludes (subst (λ (n : Option Command). IsDue n input output store status) e due)
+module _ {I O F : Type 0} (named : Option Command) (order_word : Option Text) (names : List Text) (is : named ≡ Some (Plan order_word names))
+    (input : Lent I SourceView) (output : Lent O SinkView) (files : Lent F FilesView) (status : ℕ) where
+  -- `plan` ran in the order of its words
+  pub runs_plan : {E : Type 0} (faults : Lent E SinkView) (order : ℕ) (ended : Result (Unit {0}) Failure) → IsOrder order_word order
+      → Ends (Planned names files input output) (PlanFails names files input output) ended → Concludes ended faults status → RunsAs named input output faults files status
+  runs_plan faults order ended ordered ends concludes =
+      subst (λ (n : Option Command). RunsAs n input output faults files status) (sym is)
+      (inl (order, ordered, ends_as (Planned names files input output) (PlanFails names files input output) ended faults status ends concludes))
+
+  -- the status that is due to `plan`
+  pub due_if_plan : {E : Type 0} (faults : Lent E SinkView) (order : ℕ) (ended : Result (Unit {0}) Failure) → IsOrder order_word order
+      → Ends (Planned names files input output) (PlanFails names files input output) ended → Concludes ended faults status
+      → (due : ℕ) → IsDue named input output files due → (status ≡ 5) ⊎ (status ≡ due)
+  due_if_plan faults order ended ordered ends concludes due h =
+      go (subst (λ (n : Option Command). IsDue n input output files due) is h)
+    where
+      go : PlanDue order_word names input output files due → (status ≡ 5) ⊎ (status ≡ due)
+      go (inl d) = due_to_plan names files input output ended faults status due ends concludes d.2
+      go (inr d) = absurd (d.0 order ordered)
+
+  -- the status that is due where the words of `plan` name no order
+  pub due_if_no_order : ((order : ℕ) → IsOrder order_word order → ⊥) → status ≡ 2 → (due : ℕ) → IsDue named input output files due → (status ≡ 5) ⊎ (status ≡ due)
+  due_if_no_order none two due h =
+      go (subst (λ (n : Option Command). IsDue n input output files due) is h)
+    where
+      go : PlanDue order_word names input output files due → (status ≡ 5) ⊎ (status ≡ due)
+      go (inl d) = absurd (none d.0 d.1)
+      go (inr d) = inr (two ∙ sym d.1)
 
 -- the status that is due to `check`
-pub due_if_check : {I O E F : Type 0} (named : Option Command) (input : Lent I SourceView) (output : Lent O SinkView) (faults : Lent E SinkView) (store : Lent F StoreView)
+pub due_if_check : {I O E F : Type 0} (named : Option Command) (input : Lent I SourceView) (output : Lent O SinkView) (faults : Lent E SinkView) (files : Lent F FilesView)
     (ended : Result (Unit {0}) Failure) (result : ℕ) → named ≡ Some Check → Ends (Checked input output) (CheckFails input output) ended → Concludes ended faults result
-    → (status : ℕ) → IsDue named input output store status → (result ≡ 5) ⊎ (result ≡ status)
-due_if_check named input output faults store ended result e ends concludes status due =
-    due_to_check input output ended faults result status ends concludes (subst (λ (n : Option Command). IsDue n input output store status) e due)
+    → (status : ℕ) → IsDue named input output files status → (result ≡ 5) ⊎ (result ≡ status)
+due_if_check named input output faults files ended result e ends concludes status due =
+    due_to_check input output ended faults result status ends concludes (subst (λ (n : Option Command). IsDue n input output files status) e due)
 
 module _ {I O E F D : Type 0} (named : Option Command) (file port_word : Text) (count_word : Option Text) (is : named ≡ Some (Region file port_word count_word))
     (input : Lent I SourceView) (output : Lent O SinkView) (faults : Lent E SinkView) (store : Lent F StoreView) (doors : Lent D DoorsSeen) (status : ℕ) where

@@ -21,3 +21,9 @@ no_port word number port above is as_port =
     let same : port ≡ number = one_decimal word port number as_port.number.high is.high as_port.number.spelled is.spelled in
     let below : port < 2 ^ 16 = as_port.high in
     omega (arith, above, same, below)
+
+-- a word that spells a number above the last order names no order
+pub no_order : (word : Text) (number order : ℕ) → 10 < number → number < 2 ^ 32 → decimal number ≡ word → order ≤ 10 → decimal order ≡ word → ⊥
+no_order word number order above below spelled low as_order =
+    let same : order ≡ number = one_decimal word order number (omega (arith, low)) below as_order spelled in
+    omega (arith, above, same, low)

@@ -2,7 +2,7 @@
 use Rattle.std.specs.Prelude.{Option, Some, None}
 use Rattle.std.specs.Borrow.{Bor}
 use Rattle.ojp_values.specs.Texts.{Text}
-use Rattle.ojp_cli.specs.Words.{Command as Words, Plan as PlanWords, Check as CheckWords, Region as RegionWords}
+use Rattle.ojp_cli.specs.Words.{Command as Words, texts_of, Plan as PlanWords, Check as CheckWords, Region as RegionWords}
 use Rattle.ojp_cli.specs.declared.words.Command.{Command}
 use Rattle.ojp_cli.specs.declared.words.Command.TheVariants.{Plan, Check, Region}
 
@@ -12,7 +12,7 @@ text_in None = None
 text_in (Some word) = Some word.now
 
 abbrev pub words_of : Command → Words
-words_of (Plan file) = PlanWords file.now
+words_of (Plan words) = PlanWords (text_in words.order) (texts_of words.files.now)
 words_of Check = CheckWords
 words_of (Region words) = RegionWords words.file.now words.port.now (text_in words.count)
 

@@ -1,13 +1,14 @@
 -- The words of a command line, and the command that they name.
 use Rattle.std.specs.declared.alloc.Global.{Global}
 use Rattle.std.specs.Fmt.{decimal}
-use Rattle.std.specs.Prelude.{◌≡◌, ◌≤◌, ◌<◌, ◌^◌, ℕ, Bool, String, string_bytes, map, List, [], ◌∷◌, Option, Some, None, codes, nat_eq, bytes_eq, if◌then◌else◌}
+use Rattle.std.specs.Prelude.{◌≡◌, ◌≤◌, ◌<◌, ◌^◌, ℕ, Bool, String, string_bytes, map, length, List, [], ◌∷◌, Option, Some, None, codes, nat_eq, nat_lt, bytes_eq, if◌then◌else◌}
 use Rattle.std.specs.List.{starts_with}
 use Rattle.ojp_values.specs.Texts.{Text}
 
--- a command: `plan` with its timetable file, `check`, or `region` with its file, its port and its number of connections
+-- a command: `plan` with the word of its order, where it has one, and its timetable files; `check`; or `region` with its file, its port and
+-- its number of connections
 pub data Command : Type 0 where
-  Plan : Text → Command
+  Plan : Option Text → List Text → Command
   Check : Command
   Region : Text → Text → Option Text → Command
 
@@ -15,17 +16,28 @@ pub data Command : Type 0 where
 abbrev pub is_option : Text → Bool
 is_option word = starts_with nat_eq word (codes "--")
 
--- `plan FILE`, where the file is no option
-abbrev pub plan_of : Text → Option Command
-plan_of file = if is_option file then None else Some (Plan file)
+-- ---- `plan [--order N] FILE..`
+
+-- 1 to 32 files, the first of which is no option
+abbrev pub plan_of : Option Text → List Text → Option Command
+plan_of order [] = None
+plan_of order (file ∷ more) = if is_option file then None else if nat_lt 31 (length more) then None else Some (Plan order (file ∷ more))
+
+-- the order, and then the files
+abbrev pub ordered_words : List Text → Option Command
+ordered_words [] = None
+ordered_words (order ∷ files) = plan_of (Some order) files
+
+-- what stands behind `plan`
+abbrev pub plan_words : List Text → Option Command
+plan_words [] = None
+plan_words (word ∷ words) = if bytes_eq word (codes "--order") then ordered_words words else plan_of None (word ∷ words)
+
+-- ---- `check` and `region FILE PORT [--count N]`
 
 -- one word: `check`
 abbrev pub one_word : Text → Option Command
 one_word word = if bytes_eq word (codes "check") then Some Check else None
-
--- two words: `plan` and a file
-abbrev pub two_words : Text → Text → Option Command
-two_words word file = if bytes_eq word (codes "plan") then plan_of file else None
 
 -- a file, a port and a number of connections, where the file is no option
 abbrev pub region_of : Text → Text → Option Text → Option Command
@@ -43,15 +55,21 @@ three_words word file port = region_if word file port None
 abbrev pub five_words : Text → Text → Text → Text → Text → Option Command
 five_words word file port option count = if bytes_eq option (codes "--count") then region_if word file port (Some count) else None
 
+-- a word that is not `plan`, and those behind it
+abbrev pub other_words : Text → List Text → Option Command
+other_words word [] = one_word word
+other_words word (file ∷ []) = None
+other_words word (file ∷ port ∷ []) = three_words word file port
+other_words word (file ∷ port ∷ option ∷ []) = None
+other_words word (file ∷ port ∷ option ∷ count ∷ []) = five_words word file port option count
+other_words word (file ∷ port ∷ option ∷ count ∷ sixth ∷ more) = None
+
+-- ---- all words
+
 -- the command of the words, if they are of the form of one
 abbrev pub command_of : List Text → Option Command
 command_of [] = None
-command_of (word ∷ []) = one_word word
-command_of (word ∷ file ∷ []) = two_words word file
-command_of (word ∷ file ∷ port ∷ []) = three_words word file port
-command_of (word ∷ file ∷ port ∷ option ∷ []) = None
-command_of (word ∷ file ∷ port ∷ option ∷ count ∷ []) = five_words word file port option count
-command_of (word ∷ file ∷ port ∷ option ∷ count ∷ sixth ∷ more) = None
+command_of (word ∷ words) = if bytes_eq word (codes "plan") then plan_words words else other_words word words
 
 -- the word is a number from 1 to 4,294,967,295
 pub record IsNumber (word : Text) (number : ℕ) : Type 0 where
@@ -71,6 +89,15 @@ IsCount None (Some number) = ⊥
 IsCount (Some word) None = ⊥
 IsCount (Some word) (Some number) = IsNumber word number
 
--- the command of the words, as their bytes
+-- the order in which replies become ready: from 0 to 10, and 0 where there is no word for it
+abbrev pub IsOrder : Option Text → ℕ → Type 0
+IsOrder None order = order ≡ 0
+IsOrder (Some word) order = (order ≤ 10) × (decimal order ≡ word)
+
+-- the words as their bytes
+abbrev pub texts_of : List (String Global) → List Text
+texts_of words = map (λ word. string_bytes word) words
+
+-- the command of the words
 abbrev pub named_by : List (String Global) → Option Command
-named_by words = command_of (map (λ word. string_bytes word) words)
+named_by words = command_of (texts_of words)

@@ -1,10 +1,16 @@
 //! The words of a command line.
 
 ghost use Rattle.std.specs.Prelude.{◌≡◌, ℕ, Some, None, MatchOption};
-ghost use Rattle.ojp_cli.specs.Words.{named_by, five_words, is_option, one_word, plan_of, region_if, three_words, two_words, IsPort, IsNumber};
+ghost use Rattle.ojp_cli.specs.Words.{named_by, five_words, is_option, one_word, ordered_words, other_words, plan_of, plan_words, region_if, texts_of, IsPort, IsNumber, IsOrder};
 ghost use Rattle.ojp_cli.specs.Commands.{meaning, text_in};
 
 use ojp_values::read_number;
+
+/// The most files of `plan`.
+const MOST_FILES: usize = 32;
+
+/// The last of the orders, which begin with 0.
+const LAST_ORDER: u32 = 10;
 
 /// The words of a server: its file, its port and its number of connections.
 #[derive(Clone, Copy, Debug)]
@@ -14,11 +20,18 @@ pub(crate) struct ServerWords<'a> {
     pub count: Option<&'a str>,
 }
 
+/// The words of `plan`: its order, and its files.
+#[derive(Clone, Copy, Debug)]
+pub(crate) struct PlanWords<'a> {
+    pub order: Option<&'a str>,
+    pub files: &'a [String],
+}
+
 /// A command, with its words.
 #[derive(Clone, Copy, Debug)]
 pub(crate) enum Command<'a> {
-    /// Answers one request by the timetable of the file.
-    Plan(&'a str),
+    /// Answers one request over the regions of timetable files.
+    Plan(PlanWords<'a>),
     /// Says which document the input is.
     Check,
     /// Serves the timetable of a file at a port, for so many connections or without end.
@@ -29,13 +42,70 @@ pub(crate) enum Command<'a> {
 pub(crate) fn read_words(words: &[String]) -> Option<Command<'_>>
     ensures { meaning result ≡ named_by words.now }
 {
-    match words {
-        [word] => check_command(word.as_str()),
-        [word, file] => plan_command(word.as_str(), file.as_str()),
-        [word, file, port] => region_command(word.as_str(), file.as_str(), port.as_str(), None),
-        [word, file, port, option, count] => {
+    match words.split_first() {
+        None => None,
+        Some((word, rest)) => {
+            if word.as_str() == "plan" {
+                plan_command(rest)
+            } else {
+                other_command(word.as_str(), rest)
+            }
+        }
+    }
+}
+
+/// What stands behind `plan`.
+fn plan_command(words: &[String]) -> Option<Command<'_>>
+    ensures { meaning result ≡ plan_words (texts_of words.now) }
+{
+    match words.split_first() {
+        None => None,
+        Some((word, rest)) => {
+            if word.as_str() == "--order" {
+                ordered_command(rest)
+            } else {
+                plan_with(None, words)
+            }
+        }
+    }
+}
+
+/// The order, and then the files.
+fn ordered_command(words: &[String]) -> Option<Command<'_>>
+    ensures { meaning result ≡ ordered_words (texts_of words.now) }
+{
+    match words.split_first() {
+        None => None,
+        Some((order, files)) => plan_with(Some(order.as_str()), files),
+    }
+}
+
+/// The order, where there is a word for it, and the files.
+fn plan_with<'a>(order: Option<&'a str>, files: &'a [String]) -> Option<Command<'a>>
+    ensures { meaning result ≡ plan_of (text_in order.entry) (texts_of files.now) }
+{
+    match files.first() {
+        None => None,
+        Some(file) => {
+            if is_option_word(file.as_str()) || files.len() > MOST_FILES {
+                None
+            } else {
+                Some(Command::Plan(PlanWords { order, files }))
+            }
+        }
+    }
+}
+
+/// The command of a word that is not `plan`, and of those behind it.
+fn other_command<'a>(word: &'a str, rest: &'a [String]) -> Option<Command<'a>>
+    ensures { meaning result ≡ other_words word.now (texts_of rest.now) }
+{
+    match rest {
+        [] => check_command(word),
+        [file, port] => region_command(word, file.as_str(), port.as_str(), None),
+        [file, port, option, count] => {
             counted_command(
-                word.as_str(),
+                word,
                 file.as_str(),
                 port.as_str(),
                 option.as_str(),
@@ -53,26 +123,6 @@ fn check_command(word: &str) -> Option<Command<'_>>
         Some(Command::Check)
     } else {
         None
-    }
-}
-
-fn plan_command<'a>(word: &'a str, file: &'a str) -> Option<Command<'a>>
-    ensures { meaning result ≡ two_words word.now file.now }
-{
-    if word == "plan" {
-        plan_with(file)
-    } else {
-        None
-    }
-}
-
-fn plan_with(file: &str) -> Option<Command<'_>>
-    ensures { meaning result ≡ plan_of file.now }
-{
-    if is_option_word(file) {
-        None
-    } else {
-        Some(Command::Plan(file))
     }
 }
 
@@ -104,6 +154,32 @@ fn region_command<'a>(
         Some(Command::Region(ServerWords { file, port, count }))
     } else {
         None
+    }
+}
+
+/// The order that the word names, or the first one where there is none.
+pub(crate) fn read_order(word: Option<&str>) -> Option<u64>
+    ensures { MatchOption result ((order : ℕ) → IsOrder (text_in word.entry) order → ⊥) (IsOrder (text_in word.entry)) }
+{
+    match word {
+        None => Some(0),
+        Some(word) => read_named_order(word),
+    }
+}
+
+/// The order that the word names.
+fn read_named_order(word: &str) -> Option<u64>
+    ensures { MatchOption result ((order : ℕ) → IsOrder (Some word.now) order → ⊥) (IsOrder (Some word.now)) }
+{
+    match read_number(word.as_bytes()) {
+        Some(order) => {
+            if order <= LAST_ORDER {
+                Some(u64::from(order))
+            } else {
+                None
+            }
+        }
+        None => None,
     }
 }
 

@@ -1,15 +1,9 @@
 use Rattle.std.proofs.Common.{◌≡◌, ◌∙◌, Some, ap, sym}
-use Rattle.ojp_cli.specs.Words.{named_by, Plan, Check}
+use Rattle.ojp_cli.specs.Words.{named_by, Check}
 use Rattle.ojp_cli.specs.Commands.{meaning, words_of}
 use Rattle.ojp_cli.specs.declared.words.Command.{Command}
-use Rattle.ojp_cli.proofs.RunFacts.{due_if_plan, due_if_check}
+use Rattle.ojp_cli.proofs.RunFacts.{due_if_check}
 use Rattle.ojp_cli.proofs.here.run_here.Goals as goal
-
-pub returns-in-Some-Plan-clause-due : goal.returns-in-Some-Plan-clause-due
-returns-in-Some-Plan-clause-due g c =
-    let named : named_by c.args.words.now ≡ Some (Plan c.in-Some-Plan.file.now) =
-    sym c.read_words.ensures ∙ ap meaning c.in-Some-Plan.is ∙ ap (λ (x : Command). Some (words_of x)) c.in-Some-Plan.field-0-is in
-    due_if_plan _ _ _ _ _ _ c.plan.result _ named c.plan.ensures c.conclude-in-Some-Plan.ensures
 
 pub returns-in-Some-Check-clause-due : goal.returns-in-Some-Check-clause-due
 returns-in-Some-Check-clause-due g c =

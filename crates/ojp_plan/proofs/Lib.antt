@@ -1,0 +1,6 @@
+pub mod OrderFacts
+pub mod ReadFacts
+pub mod ReadyFacts
+pub mod PlanFacts
+pub mod BookFacts
+pub mod DueFacts

@@ -1,0 +1,8 @@
+use Rattle.ojp_links_mem.specs.Files.{links_seen}
+use Rattle.ojp_plan.proofs.ReadyFacts.{answered}
+use Rattle.ojp_plan.proofs.answering.answer_ask.Goals as goal
+
+pub returns-in-Ok-clause-answers : goal.returns-in-Ok-clause-answers
+returns-in-Ok-clause-answers g c given order l =
+    answered order (links_seen c.args.files.now) (links_seen c.answer_paced-answer.new.links) c.is_sound.ensures c.is_sound-2.ensures given c.args.book.now l
+    c.in-Ok.ensures.keeps c.in-Ok.ensures.none_rejected c.in-Ok.answer.told c.args.ask.now c.in-Ok.answer.delivery c.in-Ok.ensures.answers

@@ -1,0 +1,66 @@
+//! The request is answered by the regions of the files, and the answer is spelled.
+
+ghost use Rattle.std.specs.Prelude.{◌≡◌, ℕ, IfOk, List};
+ghost use Rattle.ojp_values.specs.Limits.{IsWellDelivery};
+ghost use Rattle.ojp_timetable.specs.GatewayAnswers.{GatewayAnswers};
+ghost use Rattle.ojp_timetable.specs.Tables.{Timetable};
+ghost use Rattle.ojp_grammar.specs.Answering.{SpellsDelivery};
+ghost use Rattle.ojp_links_mem.specs.Files.{links_seen};
+ghost use Rattle.ojp_plan.specs.Plans.{AnswersAs};
+ghost use Rattle.ojp_plan.specs.Ready.{IsLearnedOf};
+
+use ojp_encode::write;
+use ojp_exchange::Book;
+use ojp_gateway::answer_paced;
+use ojp_links::Links;
+use ojp_links_mem::FileLinks;
+use ojp_outside::{MemSink, Store, WriteFault};
+use ojp_values::{Ask, Delivery, Doc, NoMemory};
+use std::alloc::Global;
+
+/// The document of the answer, in memory.
+pub(crate) fn answer_text<F: Store + Drop>(
+    alloc: Global,
+    book: &Book,
+    files: &mut FileLinks<F>,
+    ask: &Ask,
+) -> Result<MemSink, NoMemory>
+    requires { (given : List Timetable) × (order : ℕ) × IsLearnedOf given order book.now (links_seen files.old) }
+    ensures { (given : List Timetable) (order : ℕ) → IsLearnedOf given order book.now (links_seen files.old) → IfOk result (λ text. AnswersAs given ask.now text.written) }
+{
+    let delivery = answer_ask(alloc, book, files, ask)?;
+    text_of(alloc, delivery)
+}
+
+/// What the regions answer together; it is within the limits of a document.
+fn answer_ask<F: Store + Drop>(
+    alloc: Global,
+    book: &Book,
+    files: &mut FileLinks<F>,
+    ask: &Ask,
+) -> Result<Delivery, NoMemory>
+    requires { (given : List Timetable) × (order : ℕ) × IsLearnedOf given order book.now (links_seen files.old) }
+    ensures answers { (given : List Timetable) (order : ℕ) → IsLearnedOf given order book.now (links_seen files.old) → IfOk result (GatewayAnswers given ask.now) }
+    ensures well { IfOk result (λ delivery. IsWellDelivery delivery) }
+{
+    files.is_sound();
+    let answer = answer_paced(alloc, book, files, ask);
+    files.is_sound();
+    match answer {
+        Ok(answer) => Ok(answer.delivery),
+        Err(NoMemory) => Err(NoMemory),
+    }
+}
+
+/// The document of the delivery, in memory.
+fn text_of(alloc: Global, delivery: Delivery) -> Result<MemSink, NoMemory>
+    requires { IsWellDelivery delivery }
+    ensures { IfOk result (λ text. SpellsDelivery delivery text.written) }
+{
+    let mut text = MemSink::new(alloc, Vec::new(alloc));
+    match write(&Doc::Delivery(delivery), &mut text) {
+        Ok(()) => Ok(text),
+        // A sink in memory that no write is to fail has only want of memory.
+        Err(WriteFault) => Err(NoMemory),
+    }
+}
