@@ -1,0 +1,9 @@
+pub mod Files
+pub mod JourneyRows
+pub mod Names
+pub mod Own
+pub mod PlaceRows
+pub mod Places
+pub mod Ring
+pub mod Sizes
+pub mod Texts

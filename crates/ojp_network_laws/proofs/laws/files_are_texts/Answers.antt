@@ -1,0 +1,5 @@
+use Rattle.ojp_network_laws.proofs.Files as facts
+use Rattle.ojp_network_laws.proofs.laws.files_are_texts.Goals as goal
+
+pub returns : goal.returns
+returns c = facts.files_are_texts

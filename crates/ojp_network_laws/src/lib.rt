@@ -1,0 +1,4 @@
+//! Laws of the networks that are made from numbers.
+#![tactic(auto)]
+
+pub mod laws;
