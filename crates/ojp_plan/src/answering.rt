@@ -15,6 +15,7 @@ use ojp_gateway::answer_paced;
 use ojp_links::Links;
 use ojp_links_mem::FileLinks;
 use ojp_outside::{MemSink, Store, WriteFault};
+use ojp_traces::Trace;
 use ojp_values::{Ask, Delivery, Doc, NoMemory};
 use std::alloc::Global;
 
@@ -44,7 +45,8 @@ fn answer_ask<F: Store + Drop>(
     ensures well { IfOk result (λ delivery. IsWellDelivery delivery) }
 {
     files.is_sound();
-    let answer = answer_paced(alloc, book, files, ask);
+    let mut trace = Trace::off(alloc);
+    let answer = answer_paced(alloc, book, files, ask, &mut trace);
     files.is_sound();
     match answer {
         Ok(answer) => Ok(answer.delivery),

@@ -5,4 +5,4 @@ use Rattle.ojp_plan.proofs.answering.answer_ask.Goals as goal
 pub returns-in-Ok-clause-answers : goal.returns-in-Ok-clause-answers
 returns-in-Ok-clause-answers g c given order l =
     answered order (links_seen c.args.files.now) (links_seen c.answer_paced-answer.new.links) c.is_sound.ensures c.is_sound-2.ensures given c.args.book.now l
-    c.in-Ok.ensures.keeps c.in-Ok.ensures.none_rejected c.in-Ok.answer.told c.args.ask.now c.in-Ok.answer.delivery c.in-Ok.ensures.answers
+    c.in-Ok.ensures.answers.keeps c.in-Ok.ensures.answers.none_rejected c.in-Ok.answer.told c.args.ask.now c.in-Ok.answer.delivery c.in-Ok.ensures.answers.answers
