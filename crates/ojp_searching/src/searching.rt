@@ -10,7 +10,9 @@ use futures::Future;
 use futures::task::{Context, Poll};
 use ojp_exchange::Book;
 use ojp_links::PacedLinks;
+use ojp_traces::Trace;
 use ojp_turns::{Outcome, Search, Turn};
+use std::alloc::Global;
 
 /// What a search that was polled to its end gives: its outcome, and the search and its links back.
 #[derive(Drop)]
@@ -31,18 +33,20 @@ pub(crate) struct Going<L: PacedLinks> {
 /// asks to be polled again where that turn was not the last. A later poll asks to be polled again, and does nothing else.
 #[derive(Drop)]
 pub struct Searching<L: PacedLinks> {
+    alloc: Global,
     book: Book,
     going: Option<Going<L>>,
 }
 
 impl<L: PacedLinks> Searching<L> {
     /// The search over these links, with its book. It takes no memory.
-    pub fn new(search: Search, book: Book, links: L) -> Searching<L>
+    pub fn new(alloc: Global, search: Search, book: Book, links: L) -> Searching<L>
         requires { CanTurn book search (L.seen links) }
         ensures of { IsOf book search links result }
         ensures can_poll { CanPoll L.seen result }
     {
         Searching {
+            alloc,
             book,
             going: Some(Going { search, links }),
         }
@@ -69,7 +73,7 @@ impl<L: PacedLinks> Future for Searching<L> {
         let Some(going) = self.going.take() else {
             return cx.yield_now();
         };
-        match turn_and_rest(&self.book, going) {
+        match turn_and_rest(self.alloc, &self.book, going) {
             Ok(going) => {
                 self.going = Some(going);
                 cx.yield_now()
@@ -80,7 +84,11 @@ impl<L: PacedLinks> Future for Searching<L> {
 }
 
 // One turn and one rest. The error is what the search gives, where that turn was the last.
-fn turn_and_rest<L: PacedLinks>(book: &Book, going: Going<L>) -> Result<Going<L>, Sought<L>>
+fn turn_and_rest<L: PacedLinks>(
+    alloc: Global,
+    book: &Book,
+    going: Going<L>,
+) -> Result<Going<L>, Sought<L>>
     requires { CanTurn book.now going.search (L.seen going.links) }
     ensures { TurnsAndRests L.seen book.now going result }
 {
@@ -88,7 +96,8 @@ fn turn_and_rest<L: PacedLinks>(book: &Book, going: Going<L>) -> Result<Going<L>
         mut search,
         mut links,
     } = going;
-    let turn = search.turn(book, &mut links);
+    let mut trace = Trace::off(alloc);
+    let turn = search.turn(book, &mut links, &mut trace);
     links.rest();
     match turn {
         Turn::Moved => Ok(Going { search, links }),

@@ -29,7 +29,7 @@ returns-in-Ok-clause-same g c =
 pub returns-in-Ok-clause-once : goal.returns-in-Ok-clause-once
 returns-in-Ok-clause-once g c =
     let was : c.args.self.now.going ≡ Some c.in-Some.going = sym c.take.ensures.value ∙ c.in-Some.is in
-    let now : Searching g.row.L.Denot = record { book = c.args.self.now.book; going = Some c.in-Ok.going } in
+    let now : Searching g.row.L.Denot = record { alloc = c.args.self.now.alloc; book = c.args.self.now.book; going = Some c.in-Ok.going } in
     subst (λ (o : Option (Going g.row.L.Denot)). PollsFrom g.L.Links.seen c.args.self.now o now c.yield_now-in-Ok.result) (sym was)
     (subst (λ (answer : Poll (Sought g.row.L.Denot)). PollsGoing g.L.Links.seen c.args.self.now.book c.in-Some.going now answer) (sym c.yield_now-in-Ok.ensures.pending) (c.in-Ok.going, refl, refl, c.in-Ok.ensures))
 
