@@ -2,6 +2,7 @@
 #![tactic(auto)]
 
 use ojp_cli::{run_here, run_region};
+use ojp_links_mem::FileLinks;
 use ojp_outside::{FileStore, StdSink, StdSource, TcpDoors, put_all};
 use std::process::ExitCode;
 use std::{env, io};
@@ -20,10 +21,10 @@ fn main(mut rt: HostRuntime) -> ExitCode {
         let _ = put_all(&mut faults, NO_MEMORY.1);
         return ExitCode::from(NO_MEMORY.0);
     };
-    let mut store = FileStore::new(files);
+    let store = FileStore::new(files);
     let status = match words.first() {
         Some(word) if word.as_str() == "region" => {
-            let mut doors = TcpDoors::new(net);
+            let (mut store, mut doors) = (store, TcpDoors::new(net));
             run_region(
                 &mut rt,
                 alloc,
@@ -35,14 +36,17 @@ fn main(mut rt: HostRuntime) -> ExitCode {
                 &mut doors,
             )
         }
-        _ => run_here(
-            alloc,
-            &words,
-            &mut input,
-            &mut output,
-            &mut faults,
-            &mut store,
-        ),
+        _ => {
+            let mut files = FileLinks::new(alloc, store);
+            run_here(
+                alloc,
+                &words,
+                &mut input,
+                &mut output,
+                &mut faults,
+                &mut files,
+            )
+        }
     };
     ExitCode::from(status)
 }

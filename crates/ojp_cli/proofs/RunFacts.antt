@@ -1,5 +1,5 @@
 -- How a run ends by how its command ended.
-use Rattle.std.proofs.Common.{◌≡◌, ℕ, ◌⊎◌, Option, Some, Result, inl, inr, sym, ◌∙◌, subst}
+use Rattle.std.proofs.Common.{◌≡◌, ℕ, ◌⊎◌, List, Option, Some, Result, inl, inr, sym, ◌∙◌, subst}
 use Rattle.ojp_values.specs.Texts.{Text}
 use Rattle.ojp_outside.specs.Seen.{SourceView, SinkView, StoreView}
 use Rattle.ojp_steps.specs.Lent.{Lent, IsUnused}

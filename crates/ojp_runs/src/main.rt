@@ -1,5 +1,5 @@
 //! Runs the commands over the forms in memory: each row of standard input has the words, the calls that are to
-//! fail, the file `a.tt` and the input, and its stored run has the status, the output and the line of each.
+//! fail, the files and the input, and its stored run has the status, the output and the line of each.
 #![tactic(auto)]
 
 mod questions;

@@ -2,16 +2,17 @@
 
 use crate::questions::answers;
 use ojp_cli::run_here;
+use ojp_links_mem::FileLinks;
 use ojp_outside::{MemSink, MemSource, MemStore};
 use ojp_values::read_number;
 use std::alloc::Global;
 use std::str;
 
-/// One row: its first line, and behind it the file and the input.
+/// One row: its first line, and behind it the files and the input.
 #[derive(Clone, Copy)]
 struct Row<'a> {
     line: &'a str,
-    table: &'a str,
+    files: &'a str,
     input: &'a str,
 }
 
@@ -35,12 +36,12 @@ struct Outcome {
 /// front of the input, or the questions to the timetable.
 pub fn outcome_of(alloc: Global, row: &str) -> Option<String> {
     let (line, rest) = row.split_once("\n----\n")?;
-    let (table, input) = rest.split_once("----\n")?;
+    let (files, input) = rest.split_once("----\n")?;
     let input = input.strip_suffix("\n")?;
-    let row = Row { line, table, input };
+    let row = Row { line, files, input };
     match line {
         "cuts" => held(alloc, are_cut(alloc, &row)?),
-        "questions" => held(alloc, answers(alloc, table)?),
+        "questions" => held(alloc, answers(alloc, files)?),
         _ => shown(alloc, &ran(alloc, &row)?),
     }
 }
@@ -71,7 +72,7 @@ fn ran(alloc: Global, row: &Row<'_>) -> Option<Outcome> {
             None => words.push(String::from_str(alloc, word).ok()?).ok()?,
         }
     }
-    ran_with(alloc, &words, row.table, row.input, failing)
+    ran_with(alloc, &words, row, failing)
 }
 
 /// Adds a call to those that are to fail.
@@ -86,16 +87,11 @@ fn name_call(failing: &mut Failing, call: &str) -> Option<()> {
     }
 }
 
-/// Runs the words over a store with one file, `a.tt`, and an input in reads of at most 100 bytes.
-fn ran_with(
-    alloc: Global,
-    words: &[String],
-    table: &str,
-    input: &str,
-    failing: Failing,
-) -> Option<Outcome> {
-    let mut store = store_of(alloc, table, failing.store)?;
-    let input = Vec::from_slice(alloc, input.as_bytes()).ok()?;
+/// Runs the words over a store with the files of the row, and its input in reads of at most 100 bytes.
+fn ran_with(alloc: Global, words: &[String], row: &Row<'_>, failing: Failing) -> Option<Outcome> {
+    let store = store_of(alloc, row.files, failing.store)?;
+    let mut files = FileLinks::new(alloc, store);
+    let input = Vec::from_slice(alloc, row.input.as_bytes()).ok()?;
     let mut input = MemSource::new(input, 100, failing.input);
     let mut output = MemSink::new(alloc, failing.output);
     let mut faults = MemSink::new(alloc, Vec::new(alloc));
@@ -105,7 +101,7 @@ fn ran_with(
         &mut input,
         &mut output,
         &mut faults,
-        &mut store,
+        &mut files,
     );
     Some(Outcome {
         status,
@@ -114,13 +110,27 @@ fn ran_with(
     })
 }
 
-fn store_of(alloc: Global, table: &str, failing: Vec<u64>) -> Option<MemStore> {
-    let mut files = Vec::new(alloc);
-    let table = Vec::from_slice(alloc, table.as_bytes()).ok()?;
-    files
-        .push((String::from_str(alloc, "a.tt").ok()?, table))
-        .ok()?;
-    Some(MemStore::new(files, failing))
+/// The files of a row: the first is `a.tt`, and each other one follows its name behind four plus signs.
+fn store_of(alloc: Global, files: &str, failing: Vec<u64>) -> Option<MemStore> {
+    let mut named = Vec::new(alloc);
+    let mut parts = files.split("++++ ");
+    add_file(alloc, &mut named, "a.tt", parts.next()?)?;
+    for part in parts {
+        let (name, text) = part.split_once("\n")?;
+        add_file(alloc, &mut named, name, text)?;
+    }
+    Some(MemStore::new(named, failing))
+}
+
+fn add_file(
+    alloc: Global,
+    files: &mut Vec<(String, Vec<u8>)>,
+    name: &str,
+    text: &str,
+) -> Option<()> {
+    let name = String::from_str(alloc, name).ok()?;
+    let text = Vec::from_slice(alloc, text.as_bytes()).ok()?;
+    files.push((name, text)).ok()
 }
 
 /// Whether `plan a.tt` ends with status 1 and no output over each front of the input.
@@ -128,7 +138,7 @@ fn are_cut(alloc: Global, row: &Row<'_>) -> Option<bool> {
     for end in 0..row.input.len() {
         let front = Row {
             line: "plan a.tt",
-            table: row.table,
+            files: row.files,
             input: row.input.get(..end)?,
         };
         let outcome = ran(alloc, &front)?;
