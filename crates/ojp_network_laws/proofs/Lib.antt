@@ -1,6 +1,9 @@
+pub mod Asks
 pub mod Files
+pub mod Joins
 pub mod JourneyRows
 pub mod Names
+pub mod Numbered
 pub mod Own
 pub mod PlaceRows
 pub mod Places

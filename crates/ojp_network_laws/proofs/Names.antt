@@ -65,7 +65,7 @@ point_is_name point = name_of (point_name point) (point_ascii point) (point_prin
 
 -- ---- which are the same
 
-two_same : (i j : ℕ) → i < 100 → j < 100 → digit (i / 10) ≡ digit (j / 10) → digit i ≡ digit j → i ≡ j
+pub two_same : (i j : ℕ) → i < 100 → j < 100 → digit (i / 10) ≡ digit (j / 10) → digit i ≡ digit j → i ≡ j
 two_same i j a b e f = omega (arith, a, b, e, f)
 
 pub own_same : (region i j : ℕ) → i < 100 → j < 100 → own_stop region i ≡ own_stop region j → i ≡ j

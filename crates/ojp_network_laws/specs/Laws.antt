@@ -1,9 +1,19 @@
 -- The files of a network are texts of timetables.
-use Rattle.std.specs.Prelude.{◌≡◌, ◌≤◌, ℕ, true, List, [], ◌∷◌, ◌++◌, codes}
+use Rattle.std.specs.Prelude.{◌≡◌, ◌≢◌, ◌≤◌, ℕ, true, List, [], ◌∷◌, ◌++◌, codes, length, map}
 use Rattle.ojp_timetable.specs.Tables.{Service, Timetable}
 use Rattle.ojp_timetable.specs.TableText.{IsRefused, IsText}
 use Rattle.ojp_timetable.specs.declared.lines.TableReason.{TableReason}
+use Rattle.ojp_values.specs.Lists.{Each, IsRising, Pairwise}
+use Rattle.ojp_values.specs.Texts.{Text, text_lt}
 use Rattle.ojp_values.specs.declared.trips.Point.{Point}
+use Rattle.ojp_timetable.specs.GatewayAnswers.{EndsAreKnown}
+use Rattle.ojp_exchange.specs.Book.{points_of}
+use Rattle.ojp_exchange.specs.Joins.{IsRefused as IsBookRefused}
+use Rattle.ojp_exchange.specs.declared.refusals.BookRefused.{BookRefused}
+use Rattle.ojp_exchange.specs.declared.refusals.BookRefused.TheVariants as book_refusals
+use Rattle.ojp_links.specs.Seen.{region_of_table}
+use Rattle.ojp_network.specs.declared.shapes.LoadAsk.{LoadAsk}
+use Rattle.ojp_network.specs.Networks.{asks, files}
 use Rattle.ojp_timetable.specs.Tables.{Place}
 use Rattle.ojp_network.specs.Draws.{state_after}
 use Rattle.ojp_network.specs.Regions.{file, higher_point, journeys, lower_point, own_places, region_code, shared_place, shared_point}
@@ -39,3 +49,31 @@ pub record IsDrawnText (z region : ℕ) : Type 0 where
 
 abbrev pub FilesAreTexts : Type 0
 FilesAreTexts = (z region : ℕ) → 1 ≤ region → region ≤ 12 → IsDrawnText z region
+
+-- ---- the whole network
+
+-- the timetables that the files are the texts of
+abbrev pub AreTables : ℕ → List Timetable → Type 0
+AreTables number tables = Pairwise IsText (files number) tables
+
+-- no file of a network is refused
+abbrev pub FilesAreAccepted : Type 0
+FilesAreAccepted = (number : ℕ) → Each (λ (bytes : Text). (line : ℕ) (reason : TableReason) → IsRefused bytes line reason → ⊥) (files number)
+
+-- the codes of the timetables rise
+abbrev pub CodesRise : Type 0
+CodesRise = (number : ℕ) (tables : List Timetable) → AreTables number tables → IsRising text_lt (map region_of_table tables)
+
+-- the timetables make a book
+abbrev pub BooksJoin : Type 0
+BooksJoin =
+    (number : ℕ) (tables : List Timetable) → AreTables number tables → (reason : BookRefused) → IsBookRefused (map points_of tables) reason
+    → reason ≢ book_refusals.NoMemory → ⊥
+
+-- each order is one, and each ask is for a trip between two different known stops
+pub record IsGood (tables : List Timetable) (load : LoadAsk) : Type 0 where
+  pub low : load.order ≤ 10
+  pub ends : EndsAreKnown tables load.ask
+
+abbrev pub AsksAreGood : Type 0
+AsksAreGood = (number : ℕ) (tables : List Timetable) → AreTables number tables → Each (IsGood tables) (asks number) × (length (asks number) ≡ 200)
