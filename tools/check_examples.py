@@ -14,6 +14,12 @@ import sys
 TOP = pathlib.Path(__file__).resolve().parent.parent
 
 
+def expanded(word):
+    """The word, or the files that a shell would put in its place, in their order."""
+    files = sorted(str(it.relative_to(TOP)) for it in TOP.glob(word)) if "*" in word else []
+    return files or [word]
+
+
 def shown_commands():
     for page in [TOP / "README.md", *sorted((TOP / "docs").glob("*.md"))]:
         for block in re.findall(r"^```\w*\n(.*?)^```$", page.read_text(), re.M | re.S):
@@ -58,7 +64,7 @@ def main():
     runs, wrong = list(stored_runs()), 0
     for page, command, output in shown_commands():
         words, _, standard_input = command.partition("<")
-        words = shlex.split(words)[1:]
+        words = [word for given in shlex.split(words)[1:] for word in expanded(given)]
         of = [crate for crate, arguments in runs if is_run_of(crate, arguments, words, standard_input.strip() or None)]
         if not of:
             print(f"{page.relative_to(TOP)}: no stored run of: {command}")
