@@ -16,3 +16,6 @@ pub mod TraceFacts
 pub mod TraceAskFacts
 pub mod TracePollFacts
 pub mod TraceTurnFacts
+pub mod OrderPollFacts
+pub mod OrderAskFacts
+pub mod OrderTurnFacts

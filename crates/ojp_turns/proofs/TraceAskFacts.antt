@@ -51,7 +51,7 @@ asks_this book ask told after subs now last last' asks asks' number place query 
 
 -- ---- whether it was refused
 
-untold_unfailed : (told : List Entry) (query : Query) → is_told told query ≡ false → is_failed told query ≡ false
+pub untold_unfailed : (told : List Entry) (query : Query) → is_told told query ≡ false → is_failed told query ≡ false
 untold_unfailed told query e =
     elim (cases_Bool (is_failed told query)) [
       | inl fails ↦

@@ -128,7 +128,7 @@ module _ (turn : ℕ) (book : Book) (ask : TripAsk) (start subs1 subs2 subs3 : L
   sifted_asks : live_asks subs2 ≡ filter (is_wanted book ask mid) (going_on mid (live_asks start))
   sifted_asks = ap live_asks sifted ∙ (map_sifted book ask mid subs1 ∙ ap (filter (is_wanted book ask mid)) goes)
 
-  missing_are : missing_queries book ask mid subs2 ≡ new_queries book ask mid (live_asks start)
+  pub missing_are : missing_queries book ask mid subs2 ≡ new_queries book ask mid (live_asks start)
   missing_are =
       ap (λ (xs : List LiveAsk). filter (λ q. not (is_among (map asked_query xs) q)) (wanted book ask mid)) sifted_asks
       ∙ filter_same (λ q. not (is_among (map asked_query (filter (is_wanted book ask mid) (going_on mid (live_asks start)))) q)) (λ q. not (is_among (map asked_query (going_on mid (live_asks start))) q)) (wanted book ask mid)

@@ -6,3 +6,4 @@ pub mod Asking
 pub mod Turning
 pub mod Searches
 pub mod Tracing
+pub mod Ordering

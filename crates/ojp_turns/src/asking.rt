@@ -1,6 +1,6 @@
 //! The asks of a turn: what is wanted and not live is asked.
 
-ghost use Rattle.std.specs.Prelude.{◌≡◌, ◌≢◌, ◌+◌, ◌^◌, ◌<◌, ◌≤◌, length, map, slice_index_or, slice_set, Some, None, IfOk, OnErr, MatchBool};
+ghost use Rattle.std.specs.Prelude.{◌≡◌, ◌≢◌, ℕ, ◌+◌, ◌^◌, ◌<◌, ◌≤◌, length, map, slice_index_or, slice_set, Some, None, IfOk, OnErr, MatchBool};
 ghost use Rattle.ojp_values.specs.Lists.{Among};
 ghost use Rattle.ojp_links.specs.Seen.{code_at, codes_of};
 ghost use Rattle.ojp_links.specs.Calls.{Keeps};
@@ -13,6 +13,7 @@ ghost use Rattle.ojp_turns.specs.Held.{HasRegions, NotAmong, StandsIn, query_of}
 ghost use Rattle.ojp_turns.specs.Slots.{IsLastAt, IsNoneAsked};
 ghost use Rattle.ojp_turns.specs.Asking.{AsksMore, AsksSome, IsAsked, IsAsking, StayLive};
 ghost use Rattle.ojp_turns.specs.Tracing.{AsksThis, Grew, IsAskedAs, TracesAsks, TracesThis};
+ghost use Rattle.ojp_turns.specs.Ordering.{AsksOrder, BeginOrder};
 
 use crate::kept::Kept;
 use crate::tracing::trace_ask;
@@ -122,6 +123,7 @@ fn ask_one<L: Links>(
     ensures same { StayLive (L.seen links.old) (L.seen links.new) subs.old.items }
     ensures asked { IfOk result (λ done. IsAsked (L.seen links.old) (L.seen links.new) subs.old.items subs.new.items (told_of board.old) (told_of board.new) query) }
     ensures numbered { IfOk result (λ done. IsAskedAs number subs.old.items subs.new.items (told_of board.old) (told_of board.new) query) }
+    ensures ordered { IfOk result (λ done. (asks : ℕ) → number ≡ asks + 1 → BeginOrder (L.seen links.old) (L.seen links.new) asks subs.old.items subs.new.items) }
     ensures told { OnErr result (told_of board.new ≡ told_of board.old) }
     ensures subs { OnErr result (subs.new.items ≡ subs.old.items) }
 {
@@ -177,6 +179,7 @@ fn ask_at<L: Links>(
     ensures more { AsksMore book.now (ask_of board.old) (L.seen links.old) (L.seen links.new) subs.old.items subs.new.items (told_of board.old) (told_of board.new) }
     ensures some { IfOk result (λ some. AsksSome some asked.old.count asked.new.count (L.seen links.old) (L.seen links.new) subs.old.items subs.new.items (told_of board.old) (told_of board.new)) }
     ensures live { IfOk result (λ some. (query : QueryValue) → slice_index_or (slots book.now (ask_of board.old) (told_of board.new)) number None ≡ Some query → Among query (map query_of subs.new.items)) }
+    ensures ordered { IfOk result (λ some. BeginOrder (L.seen links.old) (L.seen links.new) asked.old.count subs.old.items subs.new.items) }
     ensures this { IfOk result (λ some. AsksThis some book.now (ask_of board.old) number subs.old.items subs.new.items (told_of board.old) (told_of board.new) asked.old.count asked.new.count asked.new.last.items) }
 {
     let Some(query) = board.slot(book, number) else {
@@ -218,6 +221,7 @@ fn ask_next<L: Links>(
     ensures more { AsksMore book.now (ask_of board.old) (L.seen links.old) (L.seen links.new) subs.old.items subs.new.items (told_of board.old) (told_of board.new) }
     ensures some { IfOk result (λ some. AsksSome some asked.old.count asked.new.count (L.seen links.old) (L.seen links.new) subs.old.items subs.new.items (told_of board.old) (told_of board.new)) }
     ensures live { IfOk result (λ some. (query : QueryValue) → slice_index_or (slots book.now (ask_of board.old) (told_of board.new)) number None ≡ Some query → Among query (map query_of subs.new.items)) }
+    ensures ordered { IfOk result (λ some. BeginOrder (L.seen links.old) (L.seen links.new) asked.old.count subs.old.items subs.new.items) }
     ensures traced { IfOk result (λ some. TracesThis some turn book.now (ask_of board.old) number subs.old.items subs.new.items (told_of board.old) (told_of board.new) asked.old.count asked.new.count trace.old trace.new) }
     ensures grew { Grew turn trace.old trace.new }
 {
@@ -262,6 +266,7 @@ pub fn ask_all<L: Links>(
     ensures more { AsksMore book.now (ask_of board.old) (L.seen links.old) (L.seen links.new) subs.old.items subs.new.items (told_of board.old) (told_of board.new) }
     ensures some { IfOk result (λ some. AsksSome some asked.old.count asked.new.count (L.seen links.old) (L.seen links.new) subs.old.items subs.new.items (told_of board.old) (told_of board.new)) }
     ensures none_missing { IfOk result (λ some. (query : QueryValue) → Among query (wanted book.now (ask_of board.old) (told_of board.new)) → Among query (map query_of subs.new.items)) }
+    ensures ordered { IfOk result (λ some. AsksOrder (L.seen links.old) (L.seen links.new) subs.old.items subs.new.items asked.old.count asked.new.count (told_of board.old) (told_of board.new)) }
     ensures traced { IfOk result (λ some. TracesAsks turn book.now (ask_of board.old) subs.old.items subs.new.items (told_of board.old) (told_of board.new) asked.old.count asked.new.count trace.old trace.new) }
     ensures grew { Grew turn trace.old trace.new }
 {

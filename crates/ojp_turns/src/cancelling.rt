@@ -27,6 +27,7 @@ fn cancel_first<L: Links>(
     ensures keeps { Keeps (L.seen links.old) (L.seen links.new) }
     ensures rejections { (L.seen links.new).rejections ≡ (L.seen links.old).rejections }
     ensures patience { NotRaised (L.seen links.old).patience (L.seen links.new).patience }
+    ensures made { (L.seen links.new).made ≡ (L.seen links.old).made }
     ensures sifted { FirstSifted result book.now (ask_of board.now) (told_of board.now) (L.seen links.old) (L.seen links.new) subs.old.items subs.new.items }
 {
     let Some(kept) = subs.pop_front() else {
@@ -53,6 +54,7 @@ pub fn cancel_all<L: Links>(
     ensures keeps { Keeps (L.seen links.old) (L.seen links.new) }
     ensures rejections { (L.seen links.new).rejections ≡ (L.seen links.old).rejections }
     ensures patience { NotRaised (L.seen links.old).patience (L.seen links.new).patience }
+    ensures made { (L.seen links.new).made ≡ (L.seen links.old).made }
     ensures kept { subs.new.items ≡ filter (is_still_wanted book.now (ask_of board.now) (told_of board.now)) subs.old.items }
     ensures same { StayLive (L.seen links.old) (L.seen links.new) subs.new.items }
     ensures cancels { Cancels result book.now (ask_of board.now) (told_of board.now) (L.seen links.old) (L.seen links.new) subs.old.items subs.new.items }

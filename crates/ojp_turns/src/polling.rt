@@ -9,12 +9,14 @@ ghost use Rattle.ojp_turns.specs.Held.{IsForIn, StandsIn, key_of};
 ghost use Rattle.ojp_turns.specs.Faults.{RejectsNone};
 ghost use Rattle.ojp_turns.specs.Polling.{EndFits, FirstPolled, Round, Steps, TellsEnd, WholeRound};
 ghost use Rattle.ojp_turns.specs.Tracing.{Grew, TracesEnds, TracesFirst, first_number};
+ghost use Rattle.ojp_turns.specs.Ordering.{FirstOrder, PollOrder, RoundOrder};
 
 use crate::kept::Kept;
 use crate::tracing::trace_end;
 use ojp_exchange::Book;
 use ojp_labels::Board;
 use ojp_links::Links;
+use ojp_links::laws::sure_is_never_hopeless;
 use ojp_records::Query;
 use ojp_subrequests::{SubEnd, SubPoll};
 use ojp_traces::Trace;
@@ -68,7 +70,10 @@ fn poll_one<L: Links>(
     ensures told { OnErr result (told_of board.new ≡ told_of board.old) }
     ensures gone { OnErr result ((L.seen links.new).live (key_of kept.old) ≡ None) }
     ensures rejects_none { RejectsNone book.now (ask_of board.old) (told_of board.old) (L.seen links.old) (L.seen links.new) }
+    ensures made { (L.seen links.new).made ≡ (L.seen links.old).made }
+    ensures ordered { IfOk result (λ step. PollOrder step book.now (ask_of board.old) (told_of board.old) (L.seen links.old) (L.seen links.new) kept.old) }
 {
+    sure_is_never_hopeless();
     links.is_sound();
     match kept.sub.poll(links) {
         SubPoll::Pending => Ok(Step::Waits),
@@ -95,6 +100,8 @@ fn poll_first<L: Links>(
     ensures ask { ask_of board.new ≡ ask_of board.old }
     ensures stands { StandsIn book.now (ask_of board.old) (told_of board.new) subs.new.items (L.seen links.new) }
     ensures polled { FirstPolled book.now (ask_of board.old) (L.seen links.old) (L.seen links.new) subs.old.items subs.new.items (told_of board.old) (told_of board.new) result }
+    ensures made { (L.seen links.new).made ≡ (L.seen links.old).made }
+    ensures ordered { IfOk result (λ moved. FirstOrder book.now (ask_of board.old) (L.seen links.old) (L.seen links.new) subs.old.items subs.new.items (told_of board.old) (told_of board.new)) }
 {
     let Some(mut kept) = subs.pop_front() else {
         unreachable!();
@@ -138,6 +145,8 @@ fn poll_next<L: Links>(
     ensures ask { ask_of board.new ≡ ask_of board.old }
     ensures stands { StandsIn book.now (ask_of board.old) (told_of board.new) subs.new.items (L.seen links.new) }
     ensures polled { FirstPolled book.now (ask_of board.old) (L.seen links.old) (L.seen links.new) subs.old.items subs.new.items (told_of board.old) (told_of board.new) result }
+    ensures made { (L.seen links.new).made ≡ (L.seen links.old).made }
+    ensures ordered { IfOk result (λ moved. FirstOrder book.now (ask_of board.old) (L.seen links.old) (L.seen links.new) subs.old.items subs.new.items (told_of board.old) (told_of board.new)) }
     ensures traced { IfOk result (λ moved. TracesFirst turn subs.old.items (told_of board.old) (told_of board.new) trace.old trace.new) }
     ensures err { OnErr result (trace.new ≡ trace.old) }
 {
@@ -171,6 +180,8 @@ pub fn poll_all<L: Links>(
     ensures whole { IfOk result (λ moved. WholeRound moved book.now (ask_of board.old) (L.seen links.old) (L.seen links.new) subs.old.items subs.new.items (told_of board.old) (told_of board.new)) }
     ensures traced { IfOk result (λ moved. TracesEnds turn subs.old.items (told_of board.old) (told_of board.new) trace.old trace.new) }
     ensures grew { Grew turn trace.old trace.new }
+    ensures made { (L.seen links.new).made ≡ (L.seen links.old).made }
+    ensures ordered { IfOk result (λ moved. RoundOrder turn book.now (ask_of board.old) (L.seen links.old) (L.seen links.new) subs.old.items subs.new.items (told_of board.old) (told_of board.new)) }
 {
     let mut moved = false;
     let count = subs.len();

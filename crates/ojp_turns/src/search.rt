@@ -8,6 +8,7 @@ ghost use Rattle.ojp_turns.specs.Slots.{AreAsked, IsWithinBound};
 ghost use Rattle.ojp_turns.specs.Turning.{Passes, Settles};
 ghost use Rattle.ojp_turns.specs.Searches.{CanTurn, EndsAs, IsNewFor, Turns, asks_of, is_done, record_of};
 ghost use Rattle.ojp_turns.specs.Tracing.{Grew, Traces, TracesTurn, turns_of};
+ghost use Rattle.ojp_turns.specs.Ordering.{OrderedTurn, TurnOrder};
 
 use crate::asking::{Asked, ask_all};
 use crate::cancelling::{cancel_all, cancel_rest};
@@ -87,6 +88,7 @@ impl Search {
         requires { CanTurn book.now self.old (L.seen links.old) }
         ensures turns { Turns book.now (L.seen links.old) (L.seen links.new) self.old self.new result }
         ensures traces { Traces book.now self.old self.new trace.old trace.new result }
+        ensures ordered { OrderedTurn book.now (L.seen links.old) (L.seen links.new) self.old self.new trace.old trace.new result }
     {
         self.turns = self.turns.saturating_add(1);
         let stepped = run_turn(
@@ -166,6 +168,7 @@ fn run_turn<L: Links>(
     ensures settles { IfOk result (λ moved. Settles moved book.now (ask_of board.old) (L.seen links.old) (L.seen links.new) subs.old.items subs.new.items asked.old.count asked.new.count (told_of board.old) (told_of board.new)) }
     ensures traced { IfOk result (λ moved. TracesTurn turn book.now (ask_of board.old) subs.old.items subs.new.items (told_of board.old) (told_of board.new) asked.old.count asked.new.count trace.old trace.new) }
     ensures grew { Grew turn trace.old trace.new }
+    ensures ordered { IfOk result (λ moved. TurnOrder turn book.now (ask_of board.old) (L.seen links.old) (L.seen links.new) subs.old.items subs.new.items (told_of board.old) (told_of board.new) asked.old.count asked.new.count trace.old trace.new) }
 {
     let Ok(came) = poll_all(turn, book, board, links, subs, trace) else {
         return Err(NoMemory);

@@ -11,6 +11,7 @@ use Rattle.ojp_labels.proofs.SlotFacts.{slots_length}
 use Rattle.ojp_turns.specs.Tracing.{TracesThis}
 use Rattle.ojp_turns.proofs.TraceFacts.{grew_on}
 use Rattle.ojp_turns.proofs.TraceAskFacts.{asks_to_start, asks_step, asks_end}
+use Rattle.ojp_turns.proofs.OrderAskFacts.{begins_start, begins_step}
 use Rattle.ojp_turns.proofs.asking.ask_all.Goals as goal
 
 pub asking-init : goal.asking-init
@@ -23,6 +24,7 @@ asking-init g c = record {
   some = some_none c.args.asked.now.count (g.L.Links.seen c.args.links.now) c.args.subs.now.items (told_of c.args.board.now);
   live = λ number query below e. absurd (omega (arith, below));
   traced = asks_to_start c.args.turn c.args.book.now (ask_of c.args.board.now) (told_of c.args.board.now) c.args.subs.now.items c.args.asked.now.count c.args.trace.now;
+  ordered = begins_start (g.L.Links.seen c.args.links.now) c.args.subs.now.items c.args.asked.now.count (told_of c.args.board.now);
 }
 
 pub ask_next-requires-clause-regions : goal.ask_next-requires-clause-regions
@@ -56,6 +58,11 @@ asking-preserved g c =
           c.asking.invariant.traced c.asking.invariant.more.none_new (g.L.Links.seen c.asking.links) (g.L.Links.seen c.ask_next.new.links) c.in-Ok.ensures.some
           (subst (λ (ask : TripAsk). (query : Query) → slice_index_or (slots c.args.book.now ask (told_of c.ask_next.new.board)) c.asking.number None ≡ Some query → Among query (map query_of c.ask_next.new.subs.items)) c.asking.invariant.same_ask c.in-Ok.ensures.live)
           (subst (λ (ask : TripAsk). TracesThis c.in-Ok.one c.args.turn c.args.book.now ask c.asking.number c.asking.subs.items c.ask_next.new.subs.items (told_of c.asking.board) (told_of c.ask_next.new.board) c.asking.asked.count c.ask_next.new.asked.count c.asking.trace c.ask_next.new.trace) c.asking.invariant.same_ask c.in-Ok.ensures.traced);
+      ordered = begins_step c.in-Ok.one c.args.turn c.asking.number c.args.book.now (ask_of c.args.board.now) (g.L.Links.seen c.args.links.now) (g.L.Links.seen c.asking.links) (g.L.Links.seen c.ask_next.new.links) c.args.subs.now.items c.asking.subs.items c.ask_next.new.subs.items
+          (told_of c.args.board.now) (told_of c.asking.board) (told_of c.ask_next.new.board) c.args.asked.now.count c.asking.asked.count c.ask_next.new.asked.count c.args.trace.now c.asking.trace c.ask_next.new.trace
+          c.asking.invariant.more.keeps more.same c.asking.invariant.traced.refused c.asking.invariant.traced.tells c.in-Ok.ensures.some
+          (subst (λ (ask : TripAsk). TracesThis c.in-Ok.one c.args.turn c.args.book.now ask c.asking.number c.asking.subs.items c.ask_next.new.subs.items (told_of c.asking.board) (told_of c.ask_next.new.board) c.asking.asked.count c.ask_next.new.asked.count c.asking.trace c.ask_next.new.trace) c.asking.invariant.same_ask c.in-Ok.ensures.traced)
+          c.in-Ok.ensures.ordered c.asking.invariant.ordered;
     }
 
 pub returns-clause-none_missing : goal.returns-clause-none_missing
@@ -73,3 +80,6 @@ returns-clause-grew g c = (_, c.asking.invariant.traced.adds)
 
 pub returns-in-Err-clause-grew : goal.returns-in-Err-clause-grew
 returns-in-Err-clause-grew g c = grew_on c.args.turn c.args.trace.now c.asking.trace c.ask_next.new.trace (_, c.asking.invariant.traced.adds) c.in-Err.ensures.grew
+
+pub returns-clause-ordered : goal.returns-clause-ordered
+returns-clause-ordered g c = c.asking.invariant.ordered

@@ -73,3 +73,6 @@ returns-in-Ok-clause-this g c =
     (slot_missing c.args.book.now (ask_of c.args.board.now) (told_of c.args.board.now) (told_of c.args.board.now) (g.L.Links.seen c.args.links.now) (g.L.Links.seen c.args.links.now) c.args.subs.now.items c.args.subs.now.items c.args.asked.now.last.items c.args.asked.now.count
     c.args.number c.in-Some.query c.requires.of.book_well c.requires.of.origin_well c.requires.differ c.requires.of.record_of c.requires.asking c.requires.within (sym c.in-Some.ensures) c.is_last.result c.if-is_last.false c.is_last.ensures)
     c.note.ensures.last c.note.ensures.count (ap (λ (k : ℕ). k + 1) c.count.ensures) c.in-Ok.ensures.numbered
+
+pub returns-in-Ok-clause-ordered : goal.returns-in-Ok-clause-ordered
+returns-in-Ok-clause-ordered g c = c.in-Ok.ensures.ordered c.args.asked.now.count (ap (λ (k : ℕ). k + 1) c.count.ensures)

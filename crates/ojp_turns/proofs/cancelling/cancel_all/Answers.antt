@@ -9,6 +9,7 @@ cancelling-init g c = record {
   stands = c.requires.stands;
   keeps = keeps_self (g.L.Links.seen c.args.links.now);
   rejections = refl;
+  made = refl;
   patience = not_raised_self (g.L.Links.seen c.args.links.now).patience;
   sifts = sifts_start c.args.book.now (ask_of c.args.board.now) (told_of c.args.board.now) (g.L.Links.seen c.args.links.now) c.args.subs.now.items;
 }
@@ -20,6 +21,7 @@ cancelling-preserved g c =
       stands = c.cancel_first-some.ensures.stands;
       keeps = keeps_on (g.L.Links.seen c.args.links.now) (g.L.Links.seen c.cancelling.links) (g.L.Links.seen c.cancel_first-some.new.links) c.cancelling.invariant.keeps c.cancel_first-some.ensures.keeps;
       rejections = c.cancel_first-some.ensures.rejections ∙ c.cancelling.invariant.rejections;
+      made = c.cancel_first-some.ensures.made ∙ c.cancelling.invariant.made;
       patience = not_raised_on (g.L.Links.seen c.args.links.now).patience (g.L.Links.seen c.cancelling.links).patience (g.L.Links.seen c.cancel_first-some.new.links).patience c.cancelling.invariant.patience c.cancel_first-some.ensures.patience;
       sifts = sift_more c.args.book.now (ask_of c.args.board.now) (told_of c.args.board.now) (g.L.Links.seen c.args.links.now) (g.L.Links.seen c.cancelling.links) (g.L.Links.seen c.cancel_first-some.new.links) c.args.subs.now.items c.cancelling.subs.items c.cancel_first-some.new.subs.items
           c.cancelling.some c.cancel_first-some.result c.cancelling.counter c.cancelling.invariant.sifts c.cancel_first-some.ensures.sifted c.cancelling.invariant.stands below;

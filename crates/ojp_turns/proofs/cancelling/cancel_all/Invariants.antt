@@ -10,6 +10,7 @@ invariant-cancelling g l = record {
   stands : StandsIn l.book (ask_of l.board) (told_of l.board) l.subs.items (g.L.Links.seen l.links);
   keeps : Keeps (g.L.Links.seen l.fn.links) (g.L.Links.seen l.links);
   rejections : (g.L.Links.seen l.links).rejections ≡ (g.L.Links.seen l.fn.links).rejections;
+  made : (g.L.Links.seen l.links).made ≡ (g.L.Links.seen l.fn.links).made;
   patience : NotRaised (g.L.Links.seen l.fn.links).patience (g.L.Links.seen l.links).patience;
   sifts : SiftsTo l.some l.counter l.book (ask_of l.board) (told_of l.board) (g.L.Links.seen l.fn.links) (g.L.Links.seen l.links) l.fn.subs.items l.subs.items;
 }

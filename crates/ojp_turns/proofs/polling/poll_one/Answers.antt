@@ -2,6 +2,7 @@ use Rattle.std.proofs.Common.{refl}
 use Rattle.ojp_labels.specs.Boards.{ask_of, told_of}
 use Rattle.ojp_records.proofs.SureFacts.{open_is_sure}
 use Rattle.ojp_turns.proofs.PollFacts.{pending_keeps, moved_keeps, waits_steps, moved_steps, over_gone, over_steps, is_safe, rejects_by}
+use Rattle.ojp_turns.proofs.OrderPollFacts.{moved_never}
 use Rattle.ojp_turns.proofs.polling.poll_one.Goals as goal
 
 pub returns-in-Pending-clause-patience : goal.returns-in-Pending-clause-patience
@@ -55,3 +56,8 @@ returns-in-Err-clause-rejects_none g c =
     rejects_by c.args.book.now (ask_of c.args.board.now) (told_of c.args.board.now) (g.L.Links.seen c.args.links.now) (g.L.Links.seen c.poll.new.links) c.args.kept.now.sub
     (is_safe c.args.book.now (ask_of c.args.board.now) (g.L.Links.seen c.args.links.now) c.args.kept.now c.requires.held c.is_sound.ensures open_is_sure (told_of c.args.board.now) c.requires.differ c.requires.fresh)
     c.in-Over.ensures.safe
+
+pub returns-in-Moved-clause-ordered : goal.returns-in-Moved-clause-ordered
+returns-in-Moved-clause-ordered g c =
+    moved_never c.args.book.now (ask_of c.args.board.now) (told_of c.args.board.now) (g.L.Links.seen c.args.links.now) (g.L.Links.seen c.poll.new.links) c.args.kept.now c.poll.new.self
+    c.requires.held c.is_sound.ensures c.sure_is_never_hopeless.ensures open_is_sure c.requires.differ c.requires.fresh c.in-Moved.ensures.polls

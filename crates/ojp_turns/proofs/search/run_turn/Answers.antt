@@ -1,4 +1,4 @@
-use Rattle.std.proofs.Common.{◌≡◌, map, filter, sym, subst}
+use Rattle.std.proofs.Common.{◌≡◌, ◌∙◌, map, filter, sym, subst}
 use Rattle.ojp_values.specs.Lists.{Among}
 use Rattle.ojp_records.specs.declared.queries.Query.{Query}
 use Rattle.ojp_records.specs.Wanted.{wanted}
@@ -12,6 +12,7 @@ use Rattle.ojp_turns.proofs.TurnFacts.{passes_round, passes_turn, settles, askin
 use Rattle.ojp_turns.specs.Tracing.{Adds, drops_of, TracesAsks}
 use Rattle.ojp_turns.proofs.TraceFacts.{grew_on}
 use Rattle.ojp_turns.proofs.TraceTurnFacts.{live_goes, traces_turn}
+use Rattle.ojp_turns.proofs.OrderTurnFacts.{turn_order}
 use Rattle.ojp_turns.proofs.search.run_turn.Goals as goal
 
 pub returns-in_default-clause-passes : goal.returns-in_default-clause-passes
@@ -90,3 +91,19 @@ returns-in_default-ask_all-clause-grew g c =
 pub returns-clause-grew : goal.returns-clause-grew
 returns-clause-grew g c =
     grew_on c.args.turn c.args.trace.now c.trace_drops.new.trace c.ask_all.new.trace (grew_on c.args.turn c.args.trace.now c.poll_all.new.trace c.trace_drops.new.trace c.poll_all.ensures.grew c.trace_drops.ensures.grew) c.ask_all.ensures.grew
+
+pub returns-clause-ordered : goal.returns-clause-ordered
+returns-clause-ordered g c =
+    let same : ask_of c.poll_all.new.board ≡ ask_of c.args.board.now = c.poll_all.ensures.ask in
+    turn_order c.args.turn c.args.book.now (ask_of c.args.board.now) (g.L.Links.seen c.args.links.now) (g.L.Links.seen c.poll_all.new.links) (g.L.Links.seen c.cancel_all-cancelled.new.links) (g.L.Links.seen c.ask_all.new.links)
+    c.args.subs.now.items c.poll_all.new.subs.items c.cancel_all-cancelled.new.subs.items c.ask_all.new.subs.items (told_of c.args.board.now) (told_of c.poll_all.new.board) (told_of c.ask_all.new.board)
+    c.args.asked.now.count c.ask_all.new.asked.count c.args.trace.now c.poll_all.new.trace c.trace_drops.new.trace c.ask_all.new.trace c.in-Ok.ensures.traced
+    (live_goes c.args.book.now (ask_of c.args.board.now) (g.L.Links.seen c.args.links.now) (g.L.Links.seen c.poll_all.new.links) c.args.subs.now.items c.poll_all.new.subs.items (told_of c.args.board.now) (told_of c.poll_all.new.board) c.in-Ok.came c.in-Ok.ensures.whole c.poll_all.ensures.stands)
+    (subst (λ (ask : TripAsk). Adds c.args.turn c.poll_all.new.trace c.trace_drops.new.trace (drops_of c.args.book.now ask (told_of c.poll_all.new.board) c.poll_all.new.subs.items)) same c.in-Ok-trace_drops.ensures.ok)
+    (subst (λ (ask : TripAsk). c.cancel_all-cancelled.new.subs.items ≡ filter (is_still_wanted c.args.book.now ask (told_of c.poll_all.new.board)) c.poll_all.new.subs.items) same c.cancel_all-cancelled.ensures.kept)
+    (subst (λ (ask : TripAsk). TracesAsks c.args.turn c.args.book.now ask c.cancel_all-cancelled.new.subs.items c.ask_all.new.subs.items (told_of c.poll_all.new.board) (told_of c.ask_all.new.board) c.args.asked.now.count c.ask_all.new.asked.count c.trace_drops.new.trace c.ask_all.new.trace) same c.in-Ok-ask_all.ensures.traced)
+    c.cancel_all-cancelled.ensures.same
+    (subst (λ (ask : TripAsk). AsksMore c.args.book.now ask (g.L.Links.seen c.cancel_all-cancelled.new.links) (g.L.Links.seen c.ask_all.new.links) c.cancel_all-cancelled.new.subs.items c.ask_all.new.subs.items (told_of c.poll_all.new.board) (told_of c.ask_all.new.board)) same c.ask_all.ensures.more)
+    c.requires.stands.are_open.once
+    (keeps_on (g.L.Links.seen c.args.links.now) (g.L.Links.seen c.poll_all.new.links) (g.L.Links.seen c.cancel_all-cancelled.new.links) c.poll_all.ensures.round.keeps c.cancel_all-cancelled.ensures.keeps)
+    c.in-Ok.ensures.ordered c.in-Ok-ask_all.ensures.ordered (c.cancel_all-cancelled.ensures.made ∙ c.poll_all.ensures.made)

@@ -73,3 +73,6 @@ pub returns-in-Err-clause-traces : goal.returns-in-Err-clause-traces
 returns-in-Err-clause-traces g c =
     traces_on c.args.book.now c.args.self.now (record c.args.self.now { board = c.run_turn-stepped.new.board; subs = c.cancel_rest.new.subs; asked = c.run_turn-stepped.new.asked; turns = c.saturating_add-self.result; done = true }) c.args.trace.now c.run_turn-stepped.new.trace (turns.Done outcomes.NoMemory)
     c.saturating_add-self.ensures c.run_turn-stepped.ensures.grew tt
+
+pub returns-else-not-is_empty-clause-ordered : goal.returns-else-not-is_empty-clause-ordered
+returns-else-not-is_empty-clause-ordered g c = unless_done c.ended_as.result _ c.in-Ok.ensures.ordered
