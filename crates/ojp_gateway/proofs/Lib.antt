@@ -9,3 +9,5 @@ pub mod LengthFacts
 pub mod ServedFacts
 pub mod AnsweringFacts
 pub mod TraceFacts
+pub mod OrderFacts
+pub mod OrderRunFacts

@@ -4,5 +4,6 @@ pub use Rattle.ojp_turns.specs.Searches
 pub mod Passing
 pub mod Answers
 pub mod Answering
+pub mod Ordering
 pub mod Learning
 pub mod Serving

@@ -9,6 +9,7 @@ ghost use Rattle.ojp_turns.specs.Held.{HasRegions};
 ghost use Rattle.ojp_turns.specs.Searches.{is_done};
 ghost use Rattle.ojp_gateway.specs.Answers.{PointsByBook, delivery_of_points};
 ghost use Rattle.ojp_gateway.specs.Answering.{AnswersAsk, Begins, IsOutcome};
+ghost use Rattle.ojp_gateway.specs.Ordering.{IsTraced, TakesSearch};
 
 use crate::seeking::seek_paced;
 use ojp_exchange::Book;
@@ -30,7 +31,8 @@ pub struct Answer {
     pub told: List<Entry>,
 }
 
-/// Answers an ask over paced links. A trace that is on gains the lines of the search, where there is one.
+/// Answers an ask over paced links. A trace that is on gains the lines of the search, where there is one: where the
+/// links tell their order and their timetables, those of the definition.
 ///
 /// # Errors
 ///
@@ -46,6 +48,7 @@ pub fn answer_paced<L: PacedLinks>(
     requires none_live { NoneLive (L.seen links.old) }
     ensures answers { AnswersAsk book.now (L.seen links.old) (L.seen links.new) ask.now result }
     ensures gains { Gains trace.old trace.new }
+    ensures traced { IsTraced book.now (L.seen links.old) (L.seen links.new) ask.now trace.old trace.new result }
 {
     match begin(alloc, book, ask)? {
         Begun::Answered(answer) => Ok(answer),
@@ -65,7 +68,8 @@ pub(crate) enum Begun {
 
 /// Answers an ask that takes no search, or makes its search.
 pub(crate) fn begin(alloc: Global, book: &Book, ask: &Ask) -> Result<Begun, NoMemory>
-    ensures { IfOk result (Begins book.now ask.now) }
+    ensures begins { IfOk result (Begins book.now ask.now) }
+    ensures search { IfOk result (TakesSearch ask.now) }
 {
     match ask {
         Ask::Trip(ask) => begin_trip(alloc, book, ask),
@@ -86,7 +90,8 @@ pub(crate) fn begin(alloc: Global, book: &Book, ask: &Ask) -> Result<Begun, NoMe
 
 /// Makes the search for a trip between two different stops.
 fn begin_trip(alloc: Global, book: &Book, ask: &TripAsk) -> Result<Begun, NoMemory>
-    ensures { IfOk result (Begins book.now (asks.Trip ask.now)) }
+    ensures begins { IfOk result (Begins book.now (asks.Trip ask.now)) }
+    ensures search { IfOk result (TakesSearch (asks.Trip ask.now)) }
 {
     if ask.origin == ask.target {
         let same = Fault::SameStop(ask.origin);

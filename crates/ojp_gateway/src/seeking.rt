@@ -4,6 +4,7 @@ ghost use Rattle.std.specs.Prelude.{MatchOption};
 ghost use Rattle.ojp_traces.specs.Lines.{Gains};
 ghost use Rattle.ojp_turns.specs.Searches.{CanTurn};
 ghost use Rattle.ojp_gateway.specs.Passing.{Sought, StepsOn};
+ghost use Rattle.ojp_gateway.specs.Ordering.{EndsDue, SoughtInOrder, StepsDue};
 
 use ojp_exchange::Book;
 use ojp_links::PacedLinks;
@@ -20,6 +21,7 @@ fn step_paced<L: PacedLinks>(
     requires { CanTurn book.now search.old (L.seen links.old) }
     ensures steps { MatchOption result (StepsOn book.now (L.seen links.old) (L.seen links.new) search.old search.new) (Sought book.now (L.seen links.old) (L.seen links.new) search.old search.new) }
     ensures gains { Gains trace.old trace.new }
+    ensures ordered { MatchOption result (StepsDue book.now (L.seen links.old) (L.seen links.new) search.old search.new trace.old trace.new) (EndsDue book.now (L.seen links.old) (L.seen links.new) search.old search.new trace.old trace.new) }
 {
     match search.turn(book, links, trace) {
         Turn::Moved => {
@@ -45,6 +47,7 @@ pub fn seek_paced<L: PacedLinks>(
     requires { CanTurn book.now search.old (L.seen links.old) }
     ensures sought { Sought book.now (L.seen links.old) (L.seen links.new) search.old search.new result }
     ensures gains { Gains trace.old trace.new }
+    ensures ordered { SoughtInOrder book.now (L.seen links.old) (L.seen links.new) search.old trace.old trace.new result }
 {
     // Each round but the last makes an ask, of which there is a bound; within a round patience and what is left fall.
     'searching: for _ in 0..u64::MAX {

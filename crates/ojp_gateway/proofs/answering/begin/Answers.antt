@@ -6,8 +6,8 @@ use Rattle.ojp_gateway.specs.Answers.{Answers}
 use Rattle.ojp_gateway.proofs.AnswerFacts.{points_answered, unserved_events, unserved_multi}
 use Rattle.ojp_gateway.proofs.answering.begin.Goals as goal
 
-pub returns-in-Multi : goal.returns-in-Multi
-returns-in-Multi c =
+pub returns-in-Multi-clause-begins : goal.returns-in-Multi-clause-begins
+returns-in-Multi-clause-begins c =
     let answer = c.without_search.result in (
       λ (v : View).
           subst (λ (ask : Ask). Answers c.args.book.now v v answer.told ask answer.delivery) (sym c.in-Multi.is)
@@ -15,8 +15,8 @@ returns-in-Multi c =
       subst IsWellDelivery (sym c.without_search.ensures.delivery) tt,
     )
 
-pub returns-in-Events : goal.returns-in-Events
-returns-in-Events c =
+pub returns-in-Events-clause-begins : goal.returns-in-Events-clause-begins
+returns-in-Events-clause-begins c =
     let answer = c.without_search-in-Events.result in (
       λ (v : View).
           subst (λ (ask : Ask). Answers c.args.book.now v v answer.told ask answer.delivery) (sym c.in-Events.is)
@@ -24,8 +24,8 @@ returns-in-Events c =
       subst IsWellDelivery (sym c.without_search-in-Events.ensures.delivery) tt,
     )
 
-pub returns-in-Ok : goal.returns-in-Ok
-returns-in-Ok c =
+pub returns-in-Ok-clause-begins : goal.returns-in-Ok-clause-begins
+returns-in-Ok-clause-begins c =
     let answer = c.in-Ok.answer in (
       λ (v : View).
           subst (λ (ask : Ask). Answers c.args.book.now v v answer.told ask answer.delivery) (sym c.in-Points.is)
