@@ -9,7 +9,7 @@ use Rattle.ojp_exchange.specs.Book.{Book}
 use Rattle.ojp_records.specs.declared.queries.Query.{Query}
 use Rattle.ojp_records.specs.declared.queries.Entry.{Entry}
 use Rattle.ojp_records.specs.Records.{same_query}
-use Rattle.ojp_records.specs.Examples.{at, code_bb, point_p, by_ride, heard, one_point, to_bb, at_point, shared_points, to_point, all_heard, two_regions, to_aa, back, three_points, later_to_bb, reached}
+use Rattle.ojp_records.specs.Examples.{at, code_bb, point_p, by_ride, heard, one_point, to_bb, at_point, apart, ask_to, shared_points, to_point, all_heard, two_regions, to_aa, back, three_points, later_to_bb, reached}
 use Rattle.ojp_traces.specs.Traces.{Standing, before_all, ended_from}
 
 -- nothing was heard
@@ -60,3 +60,7 @@ abbrev pub TracesDrops : Type 0
 TracesDrops =
     lines_by three_points later_to_bb 5 reached
     ≡ Some (codes "1 check 1 AA AA:a\n1 check 2 BB BB:z\n3 reply 1\n10 reply 2\n10 ask 3 AA AA:a 2024-05-06T08:55:00Z\n15 reply 3\n15 ask 4 BB x:P 2024-05-06T09:15:00Z\n15 ask 5 CC x:Q 2024-05-06T09:55:00Z\n15 ask 6 CC x:R 2024-05-06T10:00:00Z\n16 reply 4\n16 drop 5\n16 drop 6\n")
+
+-- a place of no region ends the search in its first turn, before anything is asked
+abbrev pub TracesNothing : Type 0
+TracesNothing = lines_by apart (ask_to (codes "ZZ:y") (codes "ZZ:z")) 0 [] ≡ Some []

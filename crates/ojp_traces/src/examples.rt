@@ -1,6 +1,6 @@
 //! Small networks, computed by the definitions: the traces of whole searches.
 
-ghost use Rattle.ojp_traces.specs.TraceExamples.{TracesExactChange, TracesPoints, TracesOrders, TracesDrops};
+ghost use Rattle.ojp_traces.specs.TraceExamples.{TracesExactChange, TracesPoints, TracesOrders, TracesDrops, TracesNothing};
 
 /// A change that is exactly met.
 pub fn traces_exact_change()
@@ -20,4 +20,9 @@ pub fn traces_orders()
 /// What can't improve is dropped.
 pub fn traces_drops()
     ensures { TracesDrops }
+{}
+
+/// A place of no region.
+pub fn traces_nothing()
+    ensures { TracesNothing }
 {}

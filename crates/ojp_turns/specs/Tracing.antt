@@ -138,7 +138,7 @@ UnlessLost (turns.Done (outcomes.Fault fault)) P = P
 UnlessLost (turns.Done outcomes.NoMemory) P = Unit {0}
 
 -- what a turn does to a trace: one that is off stays as it is, and one that is on gains just the lines of the turn, which has the next
--- number; where memory ran out, it may have gained the first of them
+-- number; where memory ran out, it gained lines of that number, if any
 pub record Traces (book : Book) (s now : Search) (old new : TraceView) (answer : Turn) : Type 0 where
   pub counted : turns_of now ≡ next_count (turns_of s)
   pub stays_off : old.on ≡ false → new ≡ old
