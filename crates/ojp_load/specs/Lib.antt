@@ -1,0 +1,4 @@
+pub mod Asking
+pub mod Loads
+pub mod Ready
+pub mod Replies
