@@ -12,7 +12,7 @@ text_in None = None
 text_in (Some word) = Some word.now
 
 abbrev pub words_of : Command → Words
-words_of (Plan words) = PlanWords (text_in words.order) (texts_of words.files.now)
+words_of (Plan words) = PlanWords (text_in words.order) words.traces (texts_of words.files.now)
 words_of Check = CheckWords
 words_of (Region words) = RegionWords words.file.now words.port.now (text_in words.count)
 

@@ -1,14 +1,14 @@
 -- The words of a command line, and the command that they name.
 use Rattle.std.specs.declared.alloc.Global.{Global}
 use Rattle.std.specs.Fmt.{decimal}
-use Rattle.std.specs.Prelude.{◌≡◌, ◌≤◌, ◌<◌, ◌^◌, ℕ, Bool, String, string_bytes, map, length, List, [], ◌∷◌, Option, Some, None, codes, nat_eq, nat_lt, bytes_eq, if◌then◌else◌}
+use Rattle.std.specs.Prelude.{◌≡◌, ◌≤◌, ◌<◌, ◌^◌, ℕ, Bool, true, false, String, string_bytes, map, length, List, [], ◌∷◌, Option, Some, None, codes, nat_eq, nat_lt, bytes_eq, if◌then◌else◌}
 use Rattle.std.specs.List.{starts_with}
 use Rattle.ojp_values.specs.Texts.{Text}
 
--- a command: `plan` with the word of its order, where it has one, and its timetable files; `check`; or `region` with its file, its port and
--- its number of connections
+-- a command: `plan` with the word of its order, where it has one, whether it tells its trace, and its timetable files; `check`; or
+-- `region` with its file, its port and its number of connections
 pub data Command : Type 0 where
-  Plan : Option Text → List Text → Command
+  Plan : Option Text → Bool → List Text → Command
   Check : Command
   Region : Text → Text → Option Text → Command
 
@@ -16,22 +16,39 @@ pub data Command : Type 0 where
 abbrev pub is_option : Text → Bool
 is_option word = starts_with nat_eq word (codes "--")
 
--- ---- `plan [--order N] FILE..`
+-- ---- `plan [--order N] [--trace] FILE..`, the options in either order
 
 -- 1 to 32 files, the first of which is no option
-abbrev pub plan_of : Option Text → List Text → Option Command
-plan_of order [] = None
-plan_of order (file ∷ more) = if is_option file then None else if nat_lt 31 (length more) then None else Some (Plan order (file ∷ more))
+abbrev pub plan_of : Option Text → Bool → List Text → Option Command
+plan_of order traces [] = None
+plan_of order traces (file ∷ more) = if is_option file then None else if nat_lt 31 (length more) then None else Some (Plan order traces (file ∷ more))
 
 -- the order, and then the files
-abbrev pub ordered_words : List Text → Option Command
-ordered_words [] = None
-ordered_words (order ∷ files) = plan_of (Some order) files
+abbrev pub traced_words : List Text → Option Command
+traced_words [] = None
+traced_words (order ∷ files) = plan_of (Some order) true files
+
+-- behind `--trace`: the files, or first `--order` with the order
+abbrev pub trace_words : List Text → Option Command
+trace_words [] = None
+trace_words (word ∷ words) = if bytes_eq word (codes "--order") then traced_words words else plan_of None true (word ∷ words)
+
+-- behind an order: the files, or first `--trace`
+abbrev pub behind_order : Text → List Text → Option Command
+behind_order order [] = None
+behind_order order (word ∷ words) = if bytes_eq word (codes "--trace") then plan_of (Some order) true words else plan_of (Some order) false (word ∷ words)
+
+-- behind `--order`: the order, and what stands behind it
+abbrev pub order_words : List Text → Option Command
+order_words [] = None
+order_words (order ∷ words) = behind_order order words
 
 -- what stands behind `plan`
 abbrev pub plan_words : List Text → Option Command
 plan_words [] = None
-plan_words (word ∷ words) = if bytes_eq word (codes "--order") then ordered_words words else plan_of None (word ∷ words)
+plan_words (word ∷ words) =
+    if bytes_eq word (codes "--order") then order_words words
+    else if bytes_eq word (codes "--trace") then trace_words words else plan_of None false (word ∷ words)
 
 -- ---- `check` and `region FILE PORT [--count N]`
 

@@ -16,9 +16,9 @@ use std::alloc::Global;
 
 /// Runs the command of the words, and gives the exit status. It waits for nobody.
 ///
-/// `plan [--order N] FILE..` reads 1 to 32 timetable files and one request document, and writes the delivery document
-/// with which their regions answer it together; N, from 0 to 10, is the order in which their replies become ready. `check`
-/// reads one document and writes the name of its request or delivery element, as a line. Both read the input to its end,
+/// `plan [--order N] [--trace] FILE..` reads 1 to 32 timetable files and one request document, and writes the delivery
+/// document with which their regions answer it together; N, from 0 to 10, is the order in which their replies become ready,
+/// and with `--trace` the lines of the search are written to standard error before. `check` reads one document and writes the name of its request or delivery element, as a line. Both read the input to its end,
 /// or to the first bytes that refuse the document whatever follows.
 pub fn run_here<I: Source, O: Sink, E: Sink, F: Store + Drop>(
     alloc: Global,
@@ -46,7 +46,16 @@ pub fn run_here<I: Source, O: Sink, E: Sink, F: Store + Drop>(
     match read_words(words) {
         Some(Command::Plan(words)) => match read_order(words.order) {
             Some(order) => conclude(
-                &plan(alloc, order, words.files, input, output, files),
+                &plan(
+                    alloc,
+                    order,
+                    words.traces,
+                    words.files,
+                    input,
+                    output,
+                    faults,
+                    files,
+                ),
                 faults,
             ),
             None => conclude(&Err(Failure::Words), faults),

@@ -1,7 +1,7 @@
 //! The words of a command line.
 
 ghost use Rattle.std.specs.Prelude.{◌≡◌, ℕ, Some, None, MatchOption};
-ghost use Rattle.ojp_cli.specs.Words.{named_by, five_words, is_option, one_word, ordered_words, other_words, plan_of, plan_words, region_if, texts_of, IsPort, IsNumber, IsOrder};
+ghost use Rattle.ojp_cli.specs.Words.{named_by, five_words, is_option, behind_order, one_word, order_words, other_words, plan_of, plan_words, region_if, texts_of, trace_words, traced_words, IsPort, IsNumber, IsOrder};
 ghost use Rattle.ojp_cli.specs.Commands.{meaning, text_in};
 
 use ojp_values::read_number;
@@ -20,10 +20,11 @@ pub(crate) struct ServerWords<'a> {
     pub count: Option<&'a str>,
 }
 
-/// The words of `plan`: its order, and its files.
+/// The words of `plan`: its order, whether it tells its trace, and its files.
 #[derive(Clone, Copy, Debug)]
 pub(crate) struct PlanWords<'a> {
     pub order: Option<&'a str>,
+    pub traces: bool,
     pub files: &'a [String],
 }
 
@@ -62,27 +63,71 @@ fn plan_command(words: &[String]) -> Option<Command<'_>>
         None => None,
         Some((word, rest)) => {
             if word.as_str() == "--order" {
-                ordered_command(rest)
+                order_command(rest)
+            } else if word.as_str() == "--trace" {
+                trace_command(rest)
             } else {
-                plan_with(None, words)
+                plan_with(None, false, words)
+            }
+        }
+    }
+}
+
+/// Behind `--order`: the order, and what stands behind it.
+fn order_command(words: &[String]) -> Option<Command<'_>>
+    ensures { meaning result ≡ order_words (texts_of words.now) }
+{
+    match words.split_first() {
+        None => None,
+        Some((order, rest)) => command_behind(order.as_str(), rest),
+    }
+}
+
+/// Behind an order: the files, or first `--trace`.
+fn command_behind<'a>(order: &'a str, words: &'a [String]) -> Option<Command<'a>>
+    ensures { meaning result ≡ behind_order order.now (texts_of words.now) }
+{
+    match words.split_first() {
+        None => None,
+        Some((word, rest)) => {
+            if word.as_str() == "--trace" {
+                plan_with(Some(order), true, rest)
+            } else {
+                plan_with(Some(order), false, words)
+            }
+        }
+    }
+}
+
+/// Behind `--trace`: the files, or first `--order` with the order.
+fn trace_command(words: &[String]) -> Option<Command<'_>>
+    ensures { meaning result ≡ trace_words (texts_of words.now) }
+{
+    match words.split_first() {
+        None => None,
+        Some((word, rest)) => {
+            if word.as_str() == "--order" {
+                traced_command(rest)
+            } else {
+                plan_with(None, true, words)
             }
         }
     }
 }
 
 /// The order, and then the files.
-fn ordered_command(words: &[String]) -> Option<Command<'_>>
-    ensures { meaning result ≡ ordered_words (texts_of words.now) }
+fn traced_command(words: &[String]) -> Option<Command<'_>>
+    ensures { meaning result ≡ traced_words (texts_of words.now) }
 {
     match words.split_first() {
         None => None,
-        Some((order, files)) => plan_with(Some(order.as_str()), files),
+        Some((order, files)) => plan_with(Some(order.as_str()), true, files),
     }
 }
 
-/// The order, where there is a word for it, and the files.
-fn plan_with<'a>(order: Option<&'a str>, files: &'a [String]) -> Option<Command<'a>>
-    ensures { meaning result ≡ plan_of (text_in order.entry) (texts_of files.now) }
+/// The order, where there is a word for it, whether the trace is told, and the files.
+fn plan_with<'a>(order: Option<&'a str>, traces: bool, files: &'a [String]) -> Option<Command<'a>>
+    ensures { meaning result ≡ plan_of (text_in order.entry) traces (texts_of files.now) }
 {
     match files.first() {
         None => None,
@@ -90,7 +135,11 @@ fn plan_with<'a>(order: Option<&'a str>, files: &'a [String]) -> Option<Command<
             if is_option_word(file.as_str()) || files.len() > MOST_FILES {
                 None
             } else {
-                Some(Command::Plan(PlanWords { order, files }))
+                Some(Command::Plan(PlanWords {
+                    order,
+                    traces,
+                    files,
+                }))
             }
         }
     }

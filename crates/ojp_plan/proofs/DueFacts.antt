@@ -1,5 +1,5 @@
 -- Which status is due to `plan`.
-use Rattle.std.proofs.Common.{◌≡◌, ◌≢◌, ℕ, ◌<◌, ◌≤◌, ◌⊎◌, List, [], ◌∷◌, ◌++◌, Option, Some, map, length, Result, Ok, Err, refl, sym, ap, subst, inl, inr, arith}
+use Rattle.std.proofs.Common.{◌≡◌, ◌≢◌, ℕ, ◌<◌, ◌≤◌, ◌⊎◌, Bool, List, [], ◌∷◌, ◌++◌, Option, Some, map, length, Result, Ok, Err, refl, sym, ap, subst, inl, inr, arith}
 use Rattle.std.specs.Prelude.{IsSomeAnd}
 use Rattle.ojp_values.specs.Lists.{Pairwise}
 use Rattle.ojp_values.specs.Texts.{Text}
@@ -133,7 +133,7 @@ module _ (held : Text → Option Text) where
 
 -- ---- what is due
 
-module _ {F I O : Type 0} (names : List Text) (files : Lent F FilesView) (input : Lent I SourceView) (output : Lent O SinkView) where
+module _ {F I O : Type 0} (order : ℕ) (traces : Bool) (trace : Text) (names : List Text) (files : Lent F FilesView) (input : Lent I SourceView) (output : Lent O SinkView) where
   module _ (held : Text → Option Text) (told : IsTold files held) where
     abbrev old : StoreView
     old = (before files).store
@@ -191,7 +191,7 @@ module _ {F I O : Type 0} (names : List Text) (files : Lent F FilesView) (input 
           (λ file h has. short_or_long held old told.contents new file bytes h.1 has short) (λ file table g h. long_or_good held old told.contents new file table g h.1) (refused_no_text held bytes n why refused)
 
   pub due_to_plan : {E : Type 0} (ended : Result (Unit {0}) Failure) (faults : Lent E SinkView) (result status : ℕ)
-      → Ends (Planned names files input output) (PlanFails names files input output) ended → Concludes ended faults result
+      → Ends (Planned order traces trace names files input output) (PlanFails order traces trace names files input output) ended → Concludes ended faults result
       → PlanIsDue names files input output status → (result ≡ 5) ⊎ (result ≡ status)
   -- a file is too long
   due_to_plan (Ok nothing) faults result status e c (too_long held told bytes comes long) = absurd (all_long held told bytes comes long e.due.tables (texts_of held told e.due.tables e.due.of_files))

@@ -23,6 +23,10 @@ use Rattle.ojp_exchange.specs.Book.{Book, HasCode, HasLink, HasSpot, IsBookOf, L
 use Rattle.ojp_exchange.specs.Joins.{AreTooMany, HaveOwnCodes, IsDispute, IsLeastTwice, IsRefused, times}
 use Rattle.ojp_exchange.proofs.MadeFacts.{among_back, among_map, among_moved, code_list, map_among, own_codes}
 use Rattle.ojp_links.specs.Seen.{region_of_table}
+use Rattle.ojp_records.specs.declared.queries.Query.{Query}
+use Rattle.ojp_records.specs.declared.queries.Entry.{Entry}
+use Rattle.ojp_records.specs.Headline.{AreGiven, AreTablesOf, ReplyGiven}
+use Rattle.ojp_traces.specs.Traces.{EndsWith, TraceOf}
 
 -- ---- timetables that are all among others
 
@@ -142,6 +146,37 @@ module _ (given rising : List Timetable) (p : IsPermutation given rising) where
     spots_rise = b.spots_rise;
     links_rise = b.links_rise;
   }
+
+  pub tables_given : (book : Book) → AreTablesOf rising book → AreTablesOf given book
+  tables_given book h = record {
+    tables_well = record {
+      well = λ table a. h.tables_well.well table (there table a);
+      one_each = λ x y a b e. h.tables_well.one_each x y (there x a) (there y b) e;
+    };
+    book_of = book_given book h.book_of;
+    book_well = h.book_well;
+  }
+
+  -- the trace
+  reply_given : (book : Book) (ask : TripAsk) (query : Query) (reply : Option Delivery) → ReplyGiven rising book ask query reply → ReplyGiven given book ask query reply
+  reply_given book ask query None h = tt
+  reply_given book ask query (Some reply) (table, among, region, answers) = (table, back table among, region, answers)
+
+  told_given : (book : Book) (ask : TripAsk) (told : List Entry) → AreGiven rising book ask told → AreGiven given book ask told
+  told_given book ask [] h = tt
+  told_given book ask (entry ∷ told) h = (reply_given book ask entry.query entry.reply h.0, told_given book ask told h.1)
+
+  pub trace_given : (book : Book) (ask : Ask) (order : ℕ) (text : Text) → TraceOf rising book ask order text → TraceOf given book ask order text
+  trace_given book (asks.Trip ask) order text h = record {
+    same_stop = h.same_stop;
+    search = λ differ. ended book ask order text (h.search differ);
+  }
+    where
+      ended : (book : Book) (ask : TripAsk) (order : ℕ) (text : Text) → EndsWith rising book ask order text → EndsWith given book ask order text
+      ended book ask order text e = record { reply = e.reply; turns = e.turns; last = e.last; ends = e.ends; given = told_given book ask e.last.told e.given; is_text = e.is_text }
+  trace_given book (asks.Multi ask) order text h = h
+  trace_given book (asks.Events ask) order text h = h
+  trace_given book (asks.Points ask) order text h = h
 
   times_given : (code : Text) → times (map points_of rising) code ≡ times (map points_of given) code
   times_given code =

@@ -1,5 +1,5 @@
 -- Links to the regions of files stay ready, from their opening to the answer.
-use Rattle.std.proofs.Common.{◌≡◌, ℕ, true, false, Bool, List, [], ◌∷◌, Some, Err, map, refl, sym, ◌∙◌, ap, subst, inl, inr, arith}
+use Rattle.std.proofs.Common.{◌≡◌, ℕ, true, false, Bool, List, [], ◌∷◌, Some, Ok, Err, map, refl, sym, ◌∙◌, ap, subst, inl, inr, arith}
 use Rattle.std.specs.List.{count_by}
 use Rattle.std.specs.Prelude.{◌↔◌}
 use Rattle.ojp_values.specs.Lists.{Among}
@@ -30,8 +30,13 @@ use Rattle.ojp_links_mem.specs.Regions.{count_at, fault_count, station_of}
 use Rattle.ojp_links_mem.specs.declared.pending.Pending.{Pending}
 use Rattle.ojp_links_mem.specs.declared.regions.Region.{Region}
 use Rattle.slab.specs.Slab.{Slab}
+use Rattle.ojp_traces.specs.Lines.{TraceView, Gains as TraceGains}
+use Rattle.ojp_turns.specs.Ordering.{NoFaultRose}
+use Rattle.ojp_gateway.specs.Ordering.{IsTraced}
+use Rattle.ojp_gateway.specs.declared.answering.Answer.{Answer}
+use Rattle.ojp_plan.specs.Plans.{IsTraceFor}
 use Rattle.ojp_plan.specs.Ready.{IsLearnedOf, IsOpenOver, IsReady}
-use Rattle.ojp_plan.proofs.OrderFacts.{answers_given, book_given, own_of_rising, refused_given}
+use Rattle.ojp_plan.proofs.OrderFacts.{answers_given, book_given, own_of_rising, refused_given, tables_given, trace_given}
 
 -- ---- the links are opened
 
@@ -139,6 +144,27 @@ module _ (order : ℕ) (v w : View) (before : IsSound v) (after : IsSound w) whe
     answered told ask delivery a =
         answers_given given l.over.tables l.over.rising.just_these ask delivery
         (by_tables ask delivery (a.right l.over.tables (l.over.ready.tells, l.theirs)))
+
+    -- no count rose
+    no_rise : NoFaultRose v w
+    no_rise region within =
+        let was : v.faults region ≡ 0 = l.over.ready.no_faults region in
+        let is : w.faults region ≡ 0 =
+        after.sure (ap (λ (f : Fixed). f.is_sure) keeps.fixed ∙ l.over.ready.sure) region ∙ (calm_answered region ∙ (sym (before.sure l.over.ready.sure region) ∙ was)) in
+        record { same = is ∙ sym was; below_end = omega (arith, is) }
+
+    -- the trace is the definition's where one is asked for, and else empty
+    pub traced : (ask : Ask) (first trace : TraceView) (answer : Answer) → v.made ≡ 0 → first.lines ≡ [] → TraceGains first trace → IsTraced book v w ask first trace (Ok answer) → IsTraceFor first.on given order ask trace.lines
+    traced ask first trace answer none empty gains is = go first.on refl
+      where
+        go : (on : Bool) → first.on ≡ on → IsTraceFor on given order ask trace.lines
+        go true e = (
+          book,
+          tables_given given l.over.tables l.over.rising.just_these book l.theirs,
+          trace_given given l.over.tables l.over.rising.just_these book ask order trace.lines
+              (is order l.over.tables (record { order_told = l.over.ready.in_order; tables_told = l.over.ready.tells; theirs = l.theirs; none_made = none; is_on = e; is_empty = empty }) no_rise),
+        )
+        go false e = ap (λ (t : TraceView). t.lines) (gains.stays_off e) ∙ empty
 
 -- ---- asks are counted anew
 

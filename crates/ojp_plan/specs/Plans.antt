@@ -1,5 +1,5 @@
 -- What `plan` does with timetable files and a request.
-use Rattle.std.specs.Prelude.{◌≡◌, ◌<◌, ◌≤◌, ◌++◌, ◌∷◌, ℕ, List, map, length, Option, Some}
+use Rattle.std.specs.Prelude.{◌≡◌, ◌<◌, ◌≤◌, ◌++◌, ◌∷◌, ℕ, Bool, true, false, List, [], map, length, Option, Some, Result, Ok, Err}
 use Rattle.ojp_values.specs.Lists.{Pairwise}
 use Rattle.ojp_values.specs.Texts.{Text}
 use Rattle.ojp_values.specs.declared.asks.Ask.{Ask}
@@ -17,9 +17,13 @@ use Rattle.ojp_grammar.specs.declared.refusals.Reason.{Reason}
 use Rattle.ojp_grammar.specs.declared.refusals.Want.TheVariants as wants
 use Rattle.ojp_exchange.specs.Book.{Book, points_of}
 use Rattle.ojp_exchange.specs.Joins.{IsJoined}
+use Rattle.ojp_records.specs.Headline.{AreTablesOf}
+use Rattle.ojp_traces.specs.Traces.{TraceOf}
 use Rattle.ojp_outside.specs.declared.store.TheConstants.{FILE_LIMIT}
 use Rattle.ojp_links_mem.specs.Files.{FilesView}
-use Rattle.ojp_steps.specs.Lent.{Lent, before, after, IsUnused, Gains, GainsInPart}
+use Rattle.ojp_steps.specs.Lent.{Lent, before, after, IsUnused, Gains, GainsInPart, TellsTrace}
+use Rattle.ojp_outside.specs.declared.mem_sink.MemSink.{MemSink}
+use Rattle.ojp_steps.specs.Endings.{Ends}
 use Rattle.ojp_steps.specs.Inputs.{IsDocumentOf, IsNoDocument, FailsToRead, IsReadInPart, IsHeard}
 use Rattle.ojp_steps.specs.declared.failures.Failure.{Failure}
 use Rattle.ojp_steps.specs.declared.failures.Failure.TheVariants.{Document, Input, Output, Memory}
@@ -35,33 +39,60 @@ pub record AnswersAs (tables : List Timetable) (ask : Ask) (text : Text) : Type 
 abbrev pub AreAccepted : {F : Type 0} → List Text → Lent F FilesView → Type 0
 AreAccepted names files = (tables : List Timetable) × MakesBook (before files).store names tables
 
--- the text answers the request that the input had by the timetables of the files
-pub record IsPlan {F I : Type 0} (names : List Text) (files : Lent F FilesView) (input : Lent I SourceView) (text : Text) : Type 0 where
+-- the trace is that of a search over the timetables whose replies become ready in the order, where one is asked for; else it is empty
+abbrev pub IsTraceFor : Bool → List Timetable → ℕ → Ask → Text → Type 0
+IsTraceFor true tables order ask trace = (book : Book) × AreTablesOf tables book × TraceOf tables book ask order trace
+IsTraceFor false tables order ask trace = trace ≡ []
+
+-- the text answers the request that the input had by the timetables of the files, and the trace is that of its search
+pub record IsPlan {F I : Type 0} (order : ℕ) (traces : Bool) (trace : Text) (names : List Text) (files : Lent F FilesView) (input : Lent I SourceView) (text : Text) : Type 0 where
   pub tables : List Timetable
   pub of_files : MakesBook (before files).store names tables
   pub ask : Ask
   pub of_input : IsDocumentOf wants.Request input (docs.Ask ask)
   pub answered : AnswersAs tables ask text
+  pub traced : IsTraceFor traces tables order ask trace
 
 -- the output gained just a text that is due
-pub record Planned {F I O : Type 0} (names : List Text) (files : Lent F FilesView) (input : Lent I SourceView) (output : Lent O SinkView) : Type 0 where
+pub record Planned {F I O : Type 0} (order : ℕ) (traces : Bool) (trace : Text) (names : List Text) (files : Lent F FilesView) (input : Lent I SourceView) (output : Lent O SinkView) : Type 0 where
   pub text : Text
-  pub due : IsPlan names files input text
+  pub due : IsPlan order traces trace names files input text
   pub gained : Gains output text
 
 -- a write failed, and the output gained a front of a text that is due
-pub record PlannedInPart {F I O : Type 0} (names : List Text) (files : Lent F FilesView) (input : Lent I SourceView) (output : Lent O SinkView) : Type 0 where
+pub record PlannedInPart {F I O : Type 0} (order : ℕ) (traces : Bool) (trace : Text) (names : List Text) (files : Lent F FilesView) (input : Lent I SourceView) (output : Lent O SinkView) : Type 0 where
   pub text : Text
-  pub due : IsPlan names files input text
+  pub due : IsPlan order traces trace names files input text
   pub gained : GainsInPart output text
 
--- why `plan` fails, and what it leaves alone then: each step before the one that failed was passed, and none comes behind it
-abbrev pub PlanFails : {F I O : Type 0} → List Text → Lent F FilesView → Lent I SourceView → Lent O SinkView → Failure → Type 0
-PlanFails names files input output (Document at reason) = AreAccepted names files × IsNoDocument wants.Request input at reason × IsUnused output
-PlanFails names files input output Input = AreAccepted names files × FailsToRead input × IsUnused output
-PlanFails names files input output Output = PlannedInPart names files input output
-PlanFails names files input output Memory = IsReadInPart input × IsUnused output
-PlanFails names files input output failure = FilesFail names files failure × IsUnused input × IsUnused output
+-- why there is no answer, and what was left alone then: each step before the one that failed was passed, and none comes behind it
+abbrev pub AnswerFails : {F I : Type 0} → List Text → Lent F FilesView → Lent I SourceView → Failure → Type 0
+AnswerFails names files input (Document at reason) = AreAccepted names files × IsNoDocument wants.Request input at reason
+AnswerFails names files input Input = AreAccepted names files × FailsToRead input
+AnswerFails names files input Output = ⊥
+AnswerFails names files input Memory = IsReadInPart input
+AnswerFails names files input failure = FilesFail names files failure × IsUnused input
+
+-- why `plan` fails, and what it leaves alone then: each step before the one that failed was passed, and none comes behind it; the trace is
+-- told before the output is written
+abbrev pub PlanFails : {F I O : Type 0} → ℕ → Bool → Text → List Text → Lent F FilesView → Lent I SourceView → Lent O SinkView → Failure → Type 0
+PlanFails order traces trace names files input output (Document at reason) = AreAccepted names files × IsNoDocument wants.Request input at reason × IsUnused output × (trace ≡ [])
+PlanFails order traces trace names files input output Input = AreAccepted names files × FailsToRead input × IsUnused output × (trace ≡ [])
+PlanFails order traces trace names files input output Output = PlannedInPart order traces trace names files input output
+PlanFails order traces trace names files input output Memory = IsReadInPart input × IsUnused output × (trace ≡ [])
+PlanFails order traces trace names files input output failure = FilesFail names files failure × IsUnused input × IsUnused output × (trace ≡ [])
+
+-- how the answer is made, in memory, with the trace of its search
+abbrev pub MakesText : {F I : Type 0} → ℕ → Bool → Text → List Text → Lent F FilesView → Lent I SourceView → Result MemSink Failure → Type 0
+MakesText order traces trace names files input (Ok text) = IsPlan order traces trace names files input text.written
+MakesText order traces trace names files input (Err failure) = AnswerFails names files input failure
+
+-- `plan` ends so, and standard error gained this trace, unless a write to it failed; its count of faults did not fall
+pub record PlansAs {F I O E : Type 0} (order : ℕ) (traces : Bool) (names : List Text) (files : Lent F FilesView) (input : Lent I SourceView) (output : Lent O SinkView) (faults : Lent E SinkView) (ended : Result (Unit {0}) Failure) : Type 0 where
+  pub trace : Text
+  pub ends : Ends (Planned order traces trace names files input output) (PlanFails order traces trace names files input output) ended
+  pub told : TellsTrace faults trace
+  pub later : (before faults).faults ≤ (after faults).faults
 
 -- ---- what is due
 

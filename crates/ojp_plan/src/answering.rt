@@ -1,12 +1,12 @@
 //! The request is answered by the regions of the files, and the answer is spelled.
 
-ghost use Rattle.std.specs.Prelude.{◌≡◌, ℕ, IfOk, List};
+ghost use Rattle.std.specs.Prelude.{◌≡◌, ℕ, IfOk, List, []};
 ghost use Rattle.ojp_values.specs.Limits.{IsWellDelivery};
 ghost use Rattle.ojp_timetable.specs.GatewayAnswers.{GatewayAnswers};
 ghost use Rattle.ojp_timetable.specs.Tables.{Timetable};
 ghost use Rattle.ojp_grammar.specs.Answering.{SpellsDelivery};
 ghost use Rattle.ojp_links_mem.specs.Files.{links_seen};
-ghost use Rattle.ojp_plan.specs.Plans.{AnswersAs};
+ghost use Rattle.ojp_plan.specs.Plans.{AnswersAs, IsTraceFor};
 ghost use Rattle.ojp_plan.specs.Ready.{IsLearnedOf};
 
 use ojp_encode::write;
@@ -25,11 +25,14 @@ pub(crate) fn answer_text<F: Store + Drop>(
     book: &Book,
     files: &mut FileLinks<F>,
     ask: &Ask,
+    trace: &mut Trace,
 ) -> Result<MemSink, NoMemory>
     requires { (given : List Timetable) × (order : ℕ) × IsLearnedOf given order book.now (links_seen files.old) }
-    ensures { (given : List Timetable) (order : ℕ) → IsLearnedOf given order book.now (links_seen files.old) → IfOk result (λ text. AnswersAs given ask.now text.written) }
+    ensures answers { (given : List Timetable) (order : ℕ) → IsLearnedOf given order book.now (links_seen files.old) → IfOk result (λ text. AnswersAs given ask.now text.written) }
+    ensures traced { (given : List Timetable) (order : ℕ) → IsLearnedOf given order book.now (links_seen files.old) → (links_seen files.old).made ≡ 0 → trace.old.lines ≡ []
+        → IfOk result (λ text. IsTraceFor trace.old.on given order ask.now trace.new.lines) }
 {
-    let delivery = answer_ask(alloc, book, files, ask)?;
+    let delivery = answer_ask(alloc, book, files, ask, trace)?;
     text_of(alloc, delivery)
 }
 
@@ -39,14 +42,16 @@ fn answer_ask<F: Store + Drop>(
     book: &Book,
     files: &mut FileLinks<F>,
     ask: &Ask,
+    trace: &mut Trace,
 ) -> Result<Delivery, NoMemory>
     requires { (given : List Timetable) × (order : ℕ) × IsLearnedOf given order book.now (links_seen files.old) }
     ensures answers { (given : List Timetable) (order : ℕ) → IsLearnedOf given order book.now (links_seen files.old) → IfOk result (GatewayAnswers given ask.now) }
     ensures well { IfOk result (λ delivery. IsWellDelivery delivery) }
+    ensures traced { (given : List Timetable) (order : ℕ) → IsLearnedOf given order book.now (links_seen files.old) → (links_seen files.old).made ≡ 0 → trace.old.lines ≡ []
+        → IfOk result (λ delivery. IsTraceFor trace.old.on given order ask.now trace.new.lines) }
 {
     files.is_sound();
-    let mut trace = Trace::off(alloc);
-    let answer = answer_paced(alloc, book, files, ask, &mut trace);
+    let answer = answer_paced(alloc, book, files, ask, trace);
     files.is_sound();
     match answer {
         Ok(answer) => Ok(answer.delivery),

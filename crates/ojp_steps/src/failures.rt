@@ -1,6 +1,6 @@
 //! How a command fails, with its status and its text.
 
-ghost use Rattle.std.specs.Prelude.{◌≡◌};
+ghost use Rattle.std.specs.Prelude.{◌≡◌, ◌≤◌};
 ghost use Rattle.std.specs.List.{flat_map};
 ghost use Rattle.std.specs.Io.KnownBytes.{Appends};
 ghost use Rattle.ojp_outside.specs.Causes.{Rests};
@@ -103,7 +103,8 @@ pub fn conclude<E: Sink>(ended: &Result<(), Failure<'_>>, faults: &mut E) -> u8
 }
 
 fn tell<E: Sink>(failure: &Failure<'_>, faults: &mut E)
-    ensures { Tells (lent E.seen faults.old faults.new) (line_of (text_of failure.now)) }
+    ensures told { Tells (lent E.seen faults.old faults.new) (line_of (text_of failure.now)) }
+    ensures later { (E.seen faults.old).faults ≤ (E.seen faults.new).faults }
 {
     match *failure {
         Failure::Document { at, reason } => tell_document(at, reason, faults),
@@ -128,7 +129,8 @@ fn tell<E: Sink>(failure: &Failure<'_>, faults: &mut E)
 }
 
 fn tell_document<E: Sink>(at: u64, reason: Reason, faults: &mut E)
-    ensures { Tells (lent E.seen faults.old faults.new) (line_of (refusal_text at reason)) }
+    ensures told { Tells (lent E.seen faults.old faults.new) (line_of (refusal_text at reason)) }
+    ensures later { (E.seen faults.old).faults ≤ (E.seen faults.new).faults }
 {
     let mut digits = Buffer::new();
     let number = digits.format(at);
@@ -145,7 +147,8 @@ fn tell_document<E: Sink>(at: u64, reason: Reason, faults: &mut E)
 }
 
 fn tell_line<E: Sink>(file: &str, line: u64, reason: &str, faults: &mut E)
-    ensures { Tells (lent E.seen faults.old faults.new) (line_of (refused_line_text file.now line reason.now)) }
+    ensures told { Tells (lent E.seen faults.old faults.new) (line_of (refused_line_text file.now line reason.now)) }
+    ensures later { (E.seen faults.old).faults ≤ (E.seen faults.new).faults }
 {
     let mut digits = Buffer::new();
     let number = digits.format(line);
@@ -163,7 +166,8 @@ fn tell_line<E: Sink>(file: &str, line: u64, reason: &str, faults: &mut E)
 }
 
 fn tell_dispute<E: Sink>(point: &[u8], left: &[u8], right: &[u8], faults: &mut E)
-    ensures { Tells (lent E.seen faults.old faults.new) (line_of (dispute_text point.now left.now right.now)) }
+    ensures told { Tells (lent E.seen faults.old faults.new) (line_of (dispute_text point.now left.now right.now)) }
+    ensures later { (E.seen faults.old).faults ≤ (E.seen faults.new).faults }
 {
     put(
         faults,
@@ -172,20 +176,23 @@ fn tell_dispute<E: Sink>(point: &[u8], left: &[u8], right: &[u8], faults: &mut E
 }
 
 fn tell_twice<E: Sink>(code: &[u8], faults: &mut E)
-    ensures { Tells (lent E.seen faults.old faults.new) (line_of (twice_text code.now)) }
+    ensures told { Tells (lent E.seen faults.old faults.new) (line_of (twice_text code.now)) }
+    ensures later { (E.seen faults.old).faults ≤ (E.seen faults.new).faults }
 {
     put(faults, &[b"region twice: ", code, b"\n"]);
 }
 
 fn tell_region<E: Sink>(code: &[u8], faults: &mut E)
-    ensures { Tells (lent E.seen faults.old faults.new) (line_of (region_text code.now)) }
+    ensures told { Tells (lent E.seen faults.old faults.new) (line_of (region_text code.now)) }
+    ensures later { (E.seen faults.old).faults ≤ (E.seen faults.new).faults }
 {
     put(faults, &[b"region failed: ", code, b"\n"]);
 }
 
 /// Writes the parts; nobody can be told of a fault on standard error.
 fn put<E: Sink>(faults: &mut E, parts: &[&[u8]])
-    ensures { Tells (lent E.seen faults.old faults.new) (flat_map (λ part. part.now) parts.now) }
+    ensures told { Tells (lent E.seen faults.old faults.new) (flat_map (λ part. part.now) parts.now) }
+    ensures later { (E.seen faults.old).faults ≤ (E.seen faults.new).faults }
 {
     let _ = put_parts(faults, parts);
 }
