@@ -1,0 +1,10 @@
+pub mod WellFacts
+pub mod AddFacts
+pub mod HearFacts
+pub mod AskFacts
+pub mod WidenFacts
+pub mod PassFacts
+pub mod BookFacts
+pub mod LearnFacts
+pub mod AskDue
+pub mod GatewayDue

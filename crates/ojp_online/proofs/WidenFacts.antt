@@ -1,0 +1,126 @@
+-- What answers between two moments answers between an earlier and a later one; and what serves with one relation serves with a wider one.
+use Rattle.std.proofs.Common.{◌≡◌, ℕ, ◌<◌, ◌≤◌, List, length, Option, Some, None, Result, Ok, Err, IfSome, sym, ◌∙◌, ap, subst, inl, inr, arith}
+use Rattle.ojp_values.specs.Texts.{Text}
+use Rattle.ojp_values.specs.declared.asks.Ask.{Ask}
+use Rattle.ojp_values.specs.declared.asks.Ask.TheVariants as asks
+use Rattle.ojp_values.specs.declared.replies.Delivery.{Delivery}
+use Rattle.ojp_outside.specs.Doors.{DoorsView, Entry}
+use Rattle.ojp_timetable.specs.Tables.{Timetable}
+use Rattle.ojp_grammar.specs.Answering.{AnswersBody}
+use Rattle.ojp_http.specs.Serving.{RespondsWith, ServedAs}
+use Rattle.ojp_http.specs.Connections.{Serves, Wire, WritesFor, WritesPrefixFor}
+use Rattle.ojp_http.specs.declared.served.Served.{Served}
+use Rattle.ojp_http.specs.declared.served.Served.TheVariants.{Answered, ReadFault, WriteFault, NoMemory}
+use Rattle.ojp_http.specs.declared.refusal.HttpRefusal.{HttpRefusal}
+use Rattle.ojp_exchange.specs.Book.{Book}
+use Rattle.ojp_links.specs.Seen.{View, Fixed, code_in, codes_of}
+use Rattle.ojp_links.specs.Calls.{Keeps}
+use Rattle.ojp_records.specs.declared.queries.Entry.{Entry as Told}
+use Rattle.ojp_turns.specs.Faults.{FaultRose}
+use Rattle.ojp_gateway.specs.Answers.{Answers, IsRight, TellsBook}
+use Rattle.ojp_steps.specs.Serving.{AreServed, HasServed, IsServed}
+use Rattle.ojp_online.specs.Added.{as_added}
+use Rattle.ojp_online.specs.Gateways.{GatewayGives}
+
+-- ---- moments
+
+-- from c to d is at least from a to b
+record Widens (a b c d : View) : Type 0 where
+  fixed : c.fixed ≡ a.fixed
+  before : (region : ℕ) → c.faults region ≤ a.faults region
+  after : (region : ℕ) → b.faults region ≤ d.faults region
+
+module _ (a b c d : View) (w : Widens a b c d) where
+  rose_wider : (code : Text) → FaultRose a b code → FaultRose c d code
+  rose_wider code (region, below, is, rose) = (
+    region,
+    subst (λ (f : Fixed). region < length f.stations) (sym w.fixed) below,
+    ap (λ (f : Fixed). code_in (codes_of f) region) w.fixed ∙ is,
+    omega (arith, rose, w.before region, w.after region),
+  )
+
+  tells_narrower : (book : Book) (tables : List Timetable) → TellsBook c book tables → TellsBook a book tables
+  tells_narrower book tables (tells, theirs) =
+      (record { servers = ap (λ (f : Fixed). f.servers) (sym w.fixed) ∙ tells.servers; own = tells.own ∙ ap codes_of w.fixed }, theirs)
+
+  right_wider : (tables : List Timetable) (ask : Ask) (delivery : Delivery) → IsRight a b tables ask delivery → IsRight c d tables ask delivery
+  right_wider tables (asks.Trip ask) delivery (inl r) = inl r
+  right_wider tables (asks.Trip ask) delivery (inr (inl (code, is, rose))) = inr (inl (code, is, rose_wider code rose))
+  right_wider tables (asks.Trip ask) delivery (inr (inr (is, none, (code, home, rose)))) = inr (inr (is, none, (code, home, rose_wider code rose)))
+  right_wider tables (asks.Multi ask) delivery r = r
+  right_wider tables (asks.Events ask) delivery r = r
+  right_wider tables (asks.Points ask) delivery r = r
+
+-- an answer of a later call is one since the regions were added
+pub gives_of : (book : Book) (old new : View) (told : List Told) (ask : Ask) (delivery : Delivery) → Keeps old new → Answers book old new told ask delivery → GatewayGives book new ask delivery
+gives_of book old new told ask delivery keeps answers = record {
+  right = λ tables tells. right_wider old new (as_added new) new w tables ask delivery (answers.right tables (tells_narrower old new (as_added new) new w book tables tells));
+  names_failed = λ code is. rose_wider old new (as_added new) new w code (answers.names_failed code is);
+  not_served = answers.not_served;
+}
+  where
+    w : Widens old new (as_added new) new
+    w = record { fixed = keeps.fixed; before = λ region. omega arith; after = λ region. omega arith }
+
+pub gives_on : (book : Book) (mid new : View) (ask : Ask) (delivery : Delivery) → Keeps mid new → GatewayGives book mid ask delivery → GatewayGives book new ask delivery
+gives_on book mid new ask delivery keeps gives = record {
+  right = λ tables tells. right_wider (as_added mid) mid (as_added new) new w tables ask delivery (gives.right tables (tells_narrower (as_added mid) mid (as_added new) new w book tables tells));
+  names_failed = λ code is. rose_wider (as_added mid) mid (as_added new) new w code (gives.names_failed code is);
+  not_served = gives.not_served;
+}
+  where
+    w : Widens (as_added mid) mid (as_added new) new
+    w = record { fixed = keeps.fixed; before = λ region. omega arith; after = keeps.faults }
+
+-- ---- relations
+
+answers_wider : (R S : Ask → Delivery → Type 0) → ((ask : Ask) (delivery : Delivery) → R ask delivery → S ask delivery)
+    → (body : Text) (status : ℕ) (text : Text) → AnswersBody R body status text → AnswersBody S body status text
+answers_wider R S wide body status text (inl refuses) = inl refuses
+answers_wider R S wide body status text (inr d) =
+    inr (record { ask = d.ask; asked = d.asked; delivery = d.delivery; relates = wide d.ask d.delivery d.relates; is_status = d.is_status; is_text = d.is_text })
+
+module _ (A B : Text → ℕ → Text → Type 0) (wide : (body : Text) (status : ℕ) (text : Text) → A body status text → B body status text) where
+  responds_wider : (outcome : Result Text HttpRefusal) (status : ℕ) (out : Text) → RespondsWith A outcome status out → RespondsWith B outcome status out
+  responds_wider (Ok body) status out (text, answers, is) = (text, wide body status text answers, is)
+  responds_wider (Err refusal) status out r = r
+
+  served_as_wider : (bytes : Text) (status : ℕ) (out : Text) → ServedAs A bytes status out → ServedAs B bytes status out
+  served_as_wider bytes status out s = record { outcome = s.outcome; allowed = s.allowed; responds = responds_wider s.outcome status out s.responds }
+
+  writes_wider : (old new : Wire) (status : ℕ) (left : Option Text) → IfSome left (WritesFor A old new status) → IfSome left (WritesFor B old new status)
+  writes_wider old new status None w = tt
+  writes_wider old new status (Some bytes) (out, served, appends) = (out, served_as_wider bytes status out served, appends)
+
+  prefix_wider : (old new : Wire) (left : Option Text) → IfSome left (WritesPrefixFor A old new) → IfSome left (WritesPrefixFor B old new)
+  prefix_wider old new None w = tt
+  prefix_wider old new (Some bytes) (status, out, served, appends) = (status, out, served_as_wider bytes status out served, appends)
+
+  serves_wider : (old new : Wire) (how : Served) → Serves A old new how → Serves B old new how
+  serves_wider old new (Answered status) s = (writes_wider old new status old.input.left s.0, s.1)
+  serves_wider old new ReadFault s = s
+  serves_wider old new WriteFault s = (prefix_wider old new old.input.left s.0, s.1)
+  serves_wider old new NoMemory s = s
+
+  is_served_wider : (entry : Entry) → IsServed A entry → IsServed B entry
+  is_served_wider entry s = record { old = s.old; new = s.new; given = s.given; back = s.back; ended = s.ended; serves = serves_wider s.old s.new s.ended s.serves; taken = s.taken }
+
+  are_served_wider : (new : DoorsView) (returned : Option (List Entry)) → IfSome returned (AreServed A new) → IfSome returned (AreServed B new)
+  are_served_wider new None s = tt
+  are_served_wider new (Some entries) s = record { more = s.more; returned = s.returned; given = s.given; served = λ k d below. is_served_wider _ (s.served k d below) }
+
+  has_served_wider : (old new : DoorsView) → HasServed A old new → HasServed B old new
+  has_served_wider old new s = record { asked = s.asked; none_out = s.none_out; entries = are_served_wider new old.returned s.entries }
+
+-- ---- the gateway
+
+pub gateway_serves : (book : Book) (old new : View) (told : List Told) (before after : Wire) (how : Served) → Keeps old new → Serves (AnswersBody (Answers book old new told)) before after how
+    → Serves (AnswersBody (GatewayGives book new)) before after how
+gateway_serves book old new told before after how keeps s =
+    serves_wider (AnswersBody (Answers book old new told)) (AnswersBody (GatewayGives book new))
+    (answers_wider (Answers book old new told) (GatewayGives book new) (λ ask delivery. gives_of book old new told ask delivery keeps)) before after how s
+
+pub gateway_served : (book : Book) (mid new : View) (old_doors doors : DoorsView) → Keeps mid new → HasServed (AnswersBody (GatewayGives book mid)) old_doors doors → HasServed (AnswersBody (GatewayGives book new)) old_doors doors
+gateway_served book mid new old_doors doors keeps s =
+    has_served_wider (AnswersBody (GatewayGives book mid)) (AnswersBody (GatewayGives book new))
+    (answers_wider (GatewayGives book mid) (GatewayGives book new) (λ ask delivery. gives_on book mid new ask delivery keeps)) old_doors doors s

@@ -1,0 +1,6 @@
+pub mod Added
+pub mod RegionFiles
+pub mod Heard
+pub mod Asks
+pub mod Learned
+pub mod Gateways
