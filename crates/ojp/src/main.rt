@@ -1,9 +1,10 @@
-//! The program `ojp`: it makes the real streams, files, doors and words, and calls a top call.
+//! The program `ojp`: it makes the real streams, files, doors, links and words, and calls a top call.
 #![tactic(auto)]
 
-use ojp_cli::{run_here, run_region};
+use ojp_cli::{run_here, run_net};
 use ojp_links_mem::FileLinks;
-use ojp_outside::{FileStore, StdSink, StdSource, TcpDoors, put_all};
+use ojp_links_net::NetLinks;
+use ojp_outside::{FileStore, StdClock, StdSink, StdSource, TcpDoors, put_all};
 use std::process::ExitCode;
 use std::{env, io};
 
@@ -17,15 +18,17 @@ fn main(mut rt: HostRuntime) -> ExitCode {
     let mut input = StdSource::new(rt.stdin());
     let mut output = StdSink::new(rt.stdout());
     let mut faults = StdSink::new(rt.stderr());
-    let Ok((files, net)) = parts_of(&rt) else {
+    let Ok(parts) = parts_of(&rt) else {
         let _ = put_all(&mut faults, NO_MEMORY.1);
         return ExitCode::from(NO_MEMORY.0);
     };
-    let store = FileStore::new(files);
+    let mut store = FileStore::new(parts.files);
     let status = match words.first() {
-        Some(word) if word.as_str() == "region" => {
-            let (mut store, mut doors) = (store, TcpDoors::new(net));
-            run_region(
+        Some(word) if may_wait(word.as_str()) => {
+            let mut doors = TcpDoors::new(parts.doors);
+            let clock = StdClock::new(parts.clock);
+            let mut links = NetLinks::new(alloc, parts.links, clock);
+            run_net(
                 &mut rt,
                 alloc,
                 &words,
@@ -34,6 +37,7 @@ fn main(mut rt: HostRuntime) -> ExitCode {
                 &mut faults,
                 &mut store,
                 &mut doors,
+                &mut links,
             )
         }
         _ => {
@@ -51,9 +55,27 @@ fn main(mut rt: HostRuntime) -> ExitCode {
     ExitCode::from(status)
 }
 
-/// The runtime for files and for sockets.
-fn parts_of(rt: &HostRuntime) -> io::Result<(HostRuntime, HostRuntime)> {
-    Ok((rt.clone()?, rt.clone()?))
+/// The command of the word may wait.
+fn may_wait(word: &str) -> bool {
+    word == "region" || word == "gateway" || word == "ask"
+}
+
+/// What the files, the doors, the links and their clock each run by.
+#[derive(Drop)]
+struct Parts {
+    files: HostRuntime,
+    doors: HostRuntime,
+    links: HostRuntime,
+    clock: HostRuntime,
+}
+
+fn parts_of(rt: &HostRuntime) -> io::Result<Parts> {
+    Ok(Parts {
+        files: rt.clone()?,
+        doors: rt.clone()?,
+        links: rt.clone()?,
+        clock: rt.clone()?,
+    })
 }
 
 /// The words behind the program's name.

@@ -1,4 +1,3 @@
 pub mod CheckFacts
 pub mod RunFacts
-pub mod RegionFacts
 pub mod WordFacts

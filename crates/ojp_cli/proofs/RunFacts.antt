@@ -1,20 +1,17 @@
 -- How a run ends by how its command ended.
 use Rattle.std.proofs.Common.{◌≡◌, ℕ, ◌⊎◌, Bool, List, Option, Some, Result, inl, inr, sym, ◌∙◌, subst}
 use Rattle.ojp_values.specs.Texts.{Text}
-use Rattle.ojp_outside.specs.Seen.{SourceView, SinkView, StoreView}
-use Rattle.ojp_steps.specs.Lent.{Lent, lent, IsUnused}
-use Rattle.ojp_cli.specs.Words.{Command, Plan, Check, Region, IsOrder}
+use Rattle.ojp_outside.specs.Seen.{SourceView, SinkView}
+use Rattle.ojp_steps.specs.Lent.{Lent, lent}
+use Rattle.ojp_cli.specs.Words.{Command, Plan, Check, IsOrder}
 use Rattle.ojp_steps.specs.Endings.{Ends, Concludes}
-use Rattle.ojp_steps.proofs.EndFacts.{ends_as, ends_traced}
-use Rattle.ojp_cli.specs.Runs.{IsDue, AreNumbers, PlanDue, RunsAs, RunsNetAs, IsNetDue}
+use Rattle.ojp_steps.proofs.EndFacts.{ends_traced}
+use Rattle.ojp_cli.specs.Runs.{IsDue, PlanDue, RunsAs}
 use Rattle.ojp_links_mem.specs.Files.{FilesView}
 use Rattle.ojp_plan.specs.Plans.{Planned, PlanFails, PlansAs}
 use Rattle.ojp_plan.proofs.DueFacts.{due_to_plan}
 use Rattle.ojp_cli.specs.Checks.{Checked, CheckFails}
-use Rattle.ojp_steps.specs.Serving.{DoorsSeen}
-use Rattle.ojp_cli.specs.Regions.{RegionServed, RegionFails}
 use Rattle.ojp_cli.proofs.CheckFacts.{due_to_check}
-use Rattle.ojp_cli.proofs.RegionFacts.{due_to_region}
 use Rattle.ojp_steps.specs.declared.failures.Failure.{Failure}
 
 module _ {I O F : Type 0} (named : Option Command) (order_word : Option Text) (traces : Bool) (names : List Text) (is : named ≡ Some (Plan order_word traces names))
@@ -52,36 +49,3 @@ pub due_if_check : {I O E F : Type 0} (named : Option Command) (input : Lent I S
     → (status : ℕ) → IsDue named input output files status → (result ≡ 5) ⊎ (result ≡ status)
 due_if_check named input output faults files ended result e ends concludes status due =
     due_to_check input output ended faults result status ends concludes (subst (λ (n : Option Command). IsDue n input output files status) e due)
-
-module _ {I O E F D : Type 0} (named : Option Command) (file port_word : Text) (count_word : Option Text) (is : named ≡ Some (Region file port_word count_word))
-    (input : Lent I SourceView) (output : Lent O SinkView) (faults : Lent E SinkView) (store : Lent F StoreView) (doors : Lent D DoorsSeen) (status : ℕ) where
-  -- `region` ran by the numbers of its words
-  pub runs_region : (port : ℕ) (count : Option ℕ) (ended : Result (Unit {0}) Failure) → AreNumbers port_word count_word port count
-      → Ends (RegionServed file port count store output doors) (RegionFails file port count store output doors) ended → Concludes ended faults status → IsUnused input
-      → RunsNetAs named input output faults store doors status
-  runs_region port count ended numbers ends concludes unread =
-      subst (λ (n : Option Command). RunsNetAs n input output faults store doors status) (sym is)
-      (inl (port, count, numbers, ends_as (RegionServed file port count store output doors) (RegionFails file port count store output doors) ended faults status ends concludes, unread))
-
-module _ {O F D : Type 0} (named : Option Command) (file port_word : Text) (count_word : Option Text) (is : named ≡ Some (Region file port_word count_word))
-    (output : Lent O SinkView) (store : Lent F StoreView) (doors : Lent D DoorsSeen) (status : ℕ) where
-  -- the status that is due to `region`
-  pub due_if_region : {E : Type 0} (faults : Lent E SinkView) (port : ℕ) (count : Option ℕ) (ended : Result (Unit {0}) Failure) → AreNumbers port_word count_word port count
-      → Ends (RegionServed file port count store output doors) (RegionFails file port count store output doors) ended → Concludes ended faults status
-      → (due : ℕ) → IsNetDue named output store doors due → (status ≡ 5) ⊎ (status ≡ due)
-  due_if_region faults port count ended numbers ends concludes due h =
-      go (subst (λ (n : Option Command). IsNetDue n output store doors due) is h)
-    where
-      go : IsNetDue (Some (Region file port_word count_word)) output store doors due → (status ≡ 5) ⊎ (status ≡ due)
-      go (inl d) = due_to_region file port count store output doors ended faults status due ends concludes d.3
-      go (inr d) = absurd (d.0 port count numbers)
-
-  -- the status that is due where the words of `region` name no numbers
-  pub due_if_no_numbers : ((port : ℕ) (count : Option ℕ) → AreNumbers port_word count_word port count → ⊥) → status ≡ 2
-      → (due : ℕ) → IsNetDue named output store doors due → (status ≡ 5) ⊎ (status ≡ due)
-  due_if_no_numbers none two due h =
-      go (subst (λ (n : Option Command). IsNetDue n output store doors due) is h)
-    where
-      go : IsNetDue (Some (Region file port_word count_word)) output store doors due → (status ≡ 5) ⊎ (status ≡ due)
-      go (inl d) = absurd (none d.0 d.1 d.2)
-      go (inr d) = inr (two ∙ sym d.1)

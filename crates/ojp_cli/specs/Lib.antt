@@ -1,5 +1,4 @@
 pub mod Words
 pub mod Commands
 pub mod Checks
-pub mod Regions
 pub mod Runs

@@ -1,16 +1,14 @@
 -- The words of a command line, and the command that they name.
 use Rattle.std.specs.declared.alloc.Global.{Global}
 use Rattle.std.specs.Fmt.{decimal}
-use Rattle.std.specs.Prelude.{◌≡◌, ◌≤◌, ◌<◌, ◌^◌, ℕ, Bool, true, false, String, string_bytes, map, length, List, [], ◌∷◌, Option, Some, None, codes, nat_eq, nat_lt, bytes_eq, if◌then◌else◌}
+use Rattle.std.specs.Prelude.{◌≡◌, ◌≤◌, ℕ, Bool, true, false, String, string_bytes, map, length, List, [], ◌∷◌, Option, Some, None, codes, nat_eq, nat_lt, bytes_eq, if◌then◌else◌}
 use Rattle.std.specs.List.{starts_with}
 use Rattle.ojp_values.specs.Texts.{Text}
 
--- a command: `plan` with the word of its order, where it has one, whether it tells its trace, and its timetable files; `check`; or
--- `region` with its file, its port and its number of connections
+-- a command: `plan` with the word of its order, where it has one, whether it tells its trace, and its timetable files; or `check`
 pub data Command : Type 0 where
   Plan : Option Text → Bool → List Text → Command
   Check : Command
-  Region : Text → Text → Option Text → Command
 
 -- the word is an option: it begins with two hyphens
 abbrev pub is_option : Text → Bool
@@ -50,36 +48,16 @@ plan_words (word ∷ words) =
     if bytes_eq word (codes "--order") then order_words words
     else if bytes_eq word (codes "--trace") then trace_words words else plan_of None false (word ∷ words)
 
--- ---- `check` and `region FILE PORT [--count N]`
+-- ---- `check`
 
 -- one word: `check`
 abbrev pub one_word : Text → Option Command
 one_word word = if bytes_eq word (codes "check") then Some Check else None
 
--- a file, a port and a number of connections, where the file is no option
-abbrev pub region_of : Text → Text → Option Text → Option Command
-region_of file port count = if is_option file then None else Some (Region file port count)
-
--- the word is `region`
-abbrev pub region_if : Text → Text → Text → Option Text → Option Command
-region_if word file port count = if bytes_eq word (codes "region") then region_of file port count else None
-
--- three words: `region`, a file and a port
-abbrev pub three_words : Text → Text → Text → Option Command
-three_words word file port = region_if word file port None
-
--- five words: the same, and then `--count` and a number
-abbrev pub five_words : Text → Text → Text → Text → Text → Option Command
-five_words word file port option count = if bytes_eq option (codes "--count") then region_if word file port (Some count) else None
-
 -- a word that is not `plan`, and those behind it
 abbrev pub other_words : Text → List Text → Option Command
 other_words word [] = one_word word
-other_words word (file ∷ []) = None
-other_words word (file ∷ port ∷ []) = three_words word file port
-other_words word (file ∷ port ∷ option ∷ []) = None
-other_words word (file ∷ port ∷ option ∷ count ∷ []) = five_words word file port option count
-other_words word (file ∷ port ∷ option ∷ count ∷ sixth ∷ more) = None
+other_words word (second ∷ more) = None
 
 -- ---- all words
 
@@ -87,24 +65,6 @@ other_words word (file ∷ port ∷ option ∷ count ∷ sixth ∷ more) = None
 abbrev pub command_of : List Text → Option Command
 command_of [] = None
 command_of (word ∷ words) = if bytes_eq word (codes "plan") then plan_words words else other_words word words
-
--- the word is a number from 1 to 4,294,967,295
-pub record IsNumber (word : Text) (number : ℕ) : Type 0 where
-  pub low : 1 ≤ number
-  pub high : number < 2 ^ 32
-  pub spelled : decimal number ≡ word
-
--- the word is a port from 1 to 65,535
-pub record IsPort (word : Text) (port : ℕ) : Type 0 where
-  pub number : IsNumber word port
-  pub high : port < 2 ^ 16
-
--- the number of connections, where there is a word for it
-abbrev pub IsCount : Option Text → Option ℕ → Type 0
-IsCount None None = Unit {0}
-IsCount None (Some number) = ⊥
-IsCount (Some word) None = ⊥
-IsCount (Some word) (Some number) = IsNumber word number
 
 -- the order in which replies become ready: from 0 to 10, and 0 where there is no word for it
 abbrev pub IsOrder : Option Text → ℕ → Type 0

@@ -61,7 +61,6 @@ pub fn run_here<I: Source, O: Sink, E: Sink, F: Store + Drop>(
             None => conclude(&Err(Failure::Words), faults),
         },
         Some(Command::Check) => conclude(&check(alloc, input, output), faults),
-        Some(Command::Region(_)) => conclude(&Err(Failure::Words), faults),
         None => conclude(&Err(Failure::Words), faults),
     }
 }

@@ -3,8 +3,7 @@
 
 mod commands;
 mod here;
-mod net;
 mod words;
 
 pub use here::run_here;
-pub use net::run_region;
+pub use ojp_online::run_net;

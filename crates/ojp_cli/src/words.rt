@@ -1,7 +1,7 @@
 //! The words of a command line.
 
 ghost use Rattle.std.specs.Prelude.{◌≡◌, ℕ, Some, None, MatchOption};
-ghost use Rattle.ojp_cli.specs.Words.{named_by, five_words, is_option, behind_order, one_word, order_words, other_words, plan_of, plan_words, region_if, texts_of, trace_words, traced_words, IsPort, IsNumber, IsOrder};
+ghost use Rattle.ojp_cli.specs.Words.{named_by, is_option, behind_order, one_word, order_words, other_words, plan_of, plan_words, texts_of, trace_words, traced_words, IsOrder};
 ghost use Rattle.ojp_cli.specs.Commands.{meaning, text_in};
 
 use ojp_values::read_number;
@@ -11,14 +11,6 @@ const MOST_FILES: usize = 32;
 
 /// The last of the orders, which begin with 0.
 const LAST_ORDER: u32 = 10;
-
-/// The words of a server: its file, its port and its number of connections.
-#[derive(Clone, Copy, Debug)]
-pub(crate) struct ServerWords<'a> {
-    pub file: &'a str,
-    pub port: &'a str,
-    pub count: Option<&'a str>,
-}
 
 /// The words of `plan`: its order, whether it tells its trace, and its files.
 #[derive(Clone, Copy, Debug)]
@@ -35,8 +27,6 @@ pub(crate) enum Command<'a> {
     Plan(PlanWords<'a>),
     /// Says which document the input is.
     Check,
-    /// Serves the timetable of a file at a port, for so many connections or without end.
-    Region(ServerWords<'a>),
 }
 
 /// The command of the words; `None` for words of another form.
@@ -151,16 +141,6 @@ fn other_command<'a>(word: &'a str, rest: &'a [String]) -> Option<Command<'a>>
 {
     match rest {
         [] => check_command(word),
-        [file, port] => region_command(word, file.as_str(), port.as_str(), None),
-        [file, port, option, count] => {
-            counted_command(
-                word,
-                file.as_str(),
-                port.as_str(),
-                option.as_str(),
-                count.as_str(),
-            )
-        }
         _ => None,
     }
 }
@@ -170,37 +150,6 @@ fn check_command(word: &str) -> Option<Command<'_>>
 {
     if word == "check" {
         Some(Command::Check)
-    } else {
-        None
-    }
-}
-
-fn counted_command<'a>(
-    word: &'a str,
-    file: &'a str,
-    port: &'a str,
-    option: &'a str,
-    count: &'a str,
-) -> Option<Command<'a>>
-    ensures { meaning result ≡ five_words word.now file.now port.now option.now count.now }
-{
-    if option == "--count" {
-        region_command(word, file, port, Some(count))
-    } else {
-        None
-    }
-}
-
-fn region_command<'a>(
-    word: &'a str,
-    file: &'a str,
-    port: &'a str,
-    count: Option<&'a str>,
-) -> Option<Command<'a>>
-    ensures { meaning result ≡ region_if word.now file.now port.now (text_in count.entry) }
-{
-    if word == "region" && !is_option_word(file) {
-        Some(Command::Region(ServerWords { file, port, count }))
     } else {
         None
     }
@@ -228,29 +177,6 @@ fn read_named_order(word: &str) -> Option<u64>
                 None
             }
         }
-        None => None,
-    }
-}
-
-/// The port that the word names.
-#[tactic(auto, using(crate::proofs::WordFacts::no_port))]
-pub(crate) fn read_port(word: &str) -> Option<u16>
-    ensures { MatchOption result ((port : ℕ) → IsPort word.now port → ⊥) (IsPort word.now) }
-{
-    match u16::try_from(read_count(word)?) {
-        Ok(port) => Some(port),
-        Err(_) => None,
-    }
-}
-
-/// The number from 1 on that the word names.
-#[tactic(auto, using(crate::proofs::WordFacts::no_number))]
-pub(crate) fn read_count(word: &str) -> Option<u32>
-    ensures { MatchOption result ((number : ℕ) → IsNumber word.now number → ⊥) (IsNumber word.now) }
-{
-    match read_number(word.as_bytes()) {
-        Some(0) => None,
-        Some(number) => Some(number),
         None => None,
     }
 }

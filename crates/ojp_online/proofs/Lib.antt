@@ -8,3 +8,6 @@ pub mod BookFacts
 pub mod LearnFacts
 pub mod AskDue
 pub mod GatewayDue
+pub mod WordFacts
+pub mod RegionDue
+pub mod NetFacts

@@ -1,6 +1,10 @@
+pub mod Words
+pub mod Commands
 pub mod Added
 pub mod RegionFiles
 pub mod Heard
 pub mod Asks
 pub mod Learned
 pub mod Gateways
+pub mod Regions
+pub mod Runs

@@ -1,38 +1,17 @@
 //! The command `region`: one timetable, served at a port.
 
-ghost use Rattle.std.specs.Prelude.{◌≡◌, ℕ, Option, Some, None, false, Ok, Err, MatchOption};
+ghost use Rattle.std.specs.Prelude.{◌≡◌, false, Ok, Err};
 ghost use Rattle.ojp_steps.specs.Lent.{lent};
-ghost use Rattle.ojp_cli.specs.Commands.{text_in};
-ghost use Rattle.ojp_cli.specs.Runs.{AreNumbers};
 ghost use Rattle.ojp_steps.specs.Endings.{Ends};
 ghost use Rattle.ojp_steps.specs.Serving.{seen_as};
-ghost use Rattle.ojp_cli.specs.Regions.{RegionServed, RegionFails};
+ghost use Rattle.ojp_online.specs.Regions.{RegionServed, RegionFails};
 
-use crate::words::{read_count, read_port};
 use ojp_outside::{Doors, Sink, Store};
 use ojp_steps::failures::Failure;
 use ojp_steps::files::{failure_of, read_table};
 use ojp_steps::serving::{Listening, NotServed, serve_at};
 use std::alloc::Global;
 use std::sync::Wait;
-
-/// The numbers that the words name.
-pub(crate) fn listening_of(port: &str, count: Option<&str>) -> Option<Listening>
-    ensures { MatchOption result ((at : ℕ) (most : Option ℕ) → AreNumbers port.now (text_in count.entry) at most → ⊥)
-        (λ listening. AreNumbers port.now (text_in count.entry) listening.port listening.count) }
-{
-    let port = read_port(port)?;
-    match count {
-        None => Some(Listening { port, count: None }),
-        Some(word) => {
-            let number = read_count(word)?;
-            Some(Listening {
-                port,
-                count: Some(u64::from(number)),
-            })
-        }
-    }
-}
 
 /// Reads the timetable file, and serves it where the words say.
 pub(crate) fn region<'a, R: Wait, O: Sink, F: Store, D: Doors>(

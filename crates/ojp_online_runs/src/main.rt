@@ -1,6 +1,6 @@
-//! Runs `region` over doors in memory: each row of standard input has the words and the calls that are to fail,
-//! the file `a.tt` and the connections that come, and its stored run has the status, the output, the line on
-//! standard error, and what each connection was answered that came back.
+//! Runs the commands that may wait, over doors and links in memory: each row of standard input has the words and the calls
+//! that are to fail, the file `a.tt` and the connections that come, or the input of `ask`, and its stored run has the
+//! status, the output, the line on standard error, and what each connection was answered that came back.
 #![tactic(auto)]
 
 mod connections;

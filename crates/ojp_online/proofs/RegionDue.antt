@@ -9,7 +9,7 @@ use Rattle.ojp_timetable.specs.Tables.{Timetable}
 use Rattle.ojp_steps.specs.Files.{IsFileOf}
 use Rattle.ojp_steps.specs.Serving.{DoorsSeen, ServesAt}
 use Rattle.ojp_steps.specs.declared.serving.NotServed.TheVariants as servings
-use Rattle.ojp_cli.specs.Regions.{RegionServed, RegionFails, RegionIsDue, too_long, no_table, all_served}
+use Rattle.ojp_online.specs.Regions.{RegionServed, RegionFails, RegionIsDue, too_long, no_table, all_served}
 use Rattle.ojp_steps.specs.Endings.{Ends, Concludes}
 use Rattle.ojp_steps.specs.declared.failures.Failure.{Failure}
 use Rattle.ojp_steps.specs.declared.failures.Failure.TheVariants.{Document, Words, Unread, TooLong, Input, Output, Memory, Line, Twice, TooMany, Disagree, Region, Doors}
