@@ -1,11 +1,11 @@
 -- Lists that grow by one: what they hold, and what is counted.
 use Rattle.std.proofs.Common.{◌≡◌, ℕ, zero, suc, ◌+◌, ◌<◌, ◌≤◌, List, [], ◌∷◌, ◌++◌, length, take, get_or, refl, sym, ◌∙◌, ap, subst, arith}
 use Rattle.std.specs.Prelude.{IfSome, Option, Some, None}
-use Rattle.ojp_values.specs.Lists.{Among, Each, Pairwise}
+use Rattle.ojp_values.specs.Lists.{Each, Pairwise}
 use Rattle.ojp_timetable.specs.Tables.{Timetable}
 use Rattle.ojp_network.specs.declared.shapes.LoadAsk.{LoadAsk}
 use Rattle.ojp_load.specs.Asking.{Counts, IsToldOf}
-use Rattle.ojp_load.specs.Loads.{AreTold, IsTold, seconds_of, trips_of}
+use Rattle.ojp_load.specs.Loads.{IsTold, seconds_of, trips_of}
 
 pub pairwise_more : {X Y : Type 0} (R : X → Y → Type 0) (xs : List X) (ys : List Y) (x : X) (y : Y) → Pairwise R xs ys → R x y → Pairwise R (xs ++ x ∷ []) (ys ++ y ∷ [])
 pairwise_more R [] [] x y h r = (r, tt)

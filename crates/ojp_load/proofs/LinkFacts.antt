@@ -1,16 +1,15 @@
 -- Links to the regions of a network are open, and stay so.
-use Rattle.std.proofs.Common.{◌≡◌, ◌≢◌, ℕ, ◌<◌, ◌^◌, true, false, Bool, List, [], ◌∷◌, Some, Err, map, refl, sym, ◌∙◌, ap, subst, inl, inr, arith}
-use Rattle.std.specs.Prelude.{◌↔◌, IfOk}
+use Rattle.std.proofs.Common.{◌≡◌, ℕ, true, Bool, List, [], ◌∷◌, Err, map, refl, sym, ◌∙◌, ap, subst, arith}
+use Rattle.std.specs.Prelude.{◌↔◌}
 use Rattle.std.specs.List.Sorted.{IsPermutation}
-use Rattle.ojp_outside.specs.Causes.{Rests}
 use Rattle.ojp_values.specs.Lists.{Among, Each, IsRising}
 use Rattle.ojp_values.specs.Texts.{Text, same, text_lt}
 use Rattle.ojp_timetable.specs.Tables.{Timetable}
 use Rattle.ojp_timetable.proofs.Orders.{text_order}
-use Rattle.ojp_exchange.specs.Book.{Book, points_of}
+use Rattle.ojp_exchange.specs.Book.{Book}
 use Rattle.ojp_exchange.specs.Joins.{IsRefused}
 use Rattle.ojp_exchange.proofs.MadeFacts.{among_back, among_moved}
-use Rattle.ojp_links.specs.Seen.{Fixed, IsSound, NoneLive, Station, TellsTables, View, code_of_station, codes_of, region_of_table}
+use Rattle.ojp_links.specs.Seen.{Fixed, IsSound, NoneLive, Station, View, code_of_station, codes_of, region_of_table}
 use Rattle.ojp_links.specs.Calls.{Keeps}
 use Rattle.ojp_turns.specs.Faults.{NoRejectionRose}
 use Rattle.ojp_gateway.specs.Answers.{NoneRejected}

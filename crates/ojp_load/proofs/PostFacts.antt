@@ -1,7 +1,6 @@
 -- A request is put through the gateway, and its response holds the answer.
-use Rattle.std.proofs.Common.{◌≡◌, ◌⊎◌, inl, inr, ℕ, ◌<◌, ◌≤◌, ◌^◌, List, [], ◌∷◌, ◌++◌, length, Some, Ok, Err, refl, sym, ◌∙◌, ap, subst, append-nil, arith}
-use Rattle.std.specs.Prelude.{Option, Result, IfSome, codes}
-use Rattle.ojp_outside.specs.Causes.{Rests}
+use Rattle.std.proofs.Common.{◌≡◌, inl, inr, ℕ, ◌<◌, ◌≤◌, ◌^◌, List, [], ◌++◌, length, Some, refl, sym, ◌∙◌, ap, subst, arith}
+use Rattle.std.specs.Prelude.{Result, codes}
 use Rattle.ojp_outside.specs.Memory.{MemSinkView, MemSourceView}
 use Rattle.ojp_outside.specs.MemorySeen.{sink_of, source_of}
 use Rattle.ojp_values.specs.Texts.{Text}
@@ -11,7 +10,7 @@ use Rattle.ojp_values.specs.declared.replies.Delivery.{Delivery}
 use Rattle.ojp_timetable.specs.GatewayAnswers.{GatewayAnswers}
 use Rattle.ojp_timetable.specs.Tables.{Timetable}
 use Rattle.ojp_exchange.specs.Book.{Book}
-use Rattle.ojp_grammar.specs.Answering.{AnswersBody, DeliversBody, RefusesBody, SpellsAsk, SpellsDelivery}
+use Rattle.ojp_grammar.specs.Answering.{AnswersBody, DeliversBody}
 use Rattle.ojp_grammar.specs.Documents.{IsWell, items}
 use Rattle.ojp_grammar.specs.Items.{spell}
 use Rattle.ojp_grammar.specs.Laws.{AreShort, OneSpelling}
@@ -22,7 +21,7 @@ use Rattle.ojp_http.specs.declared.served.Served.{Served}
 use Rattle.ojp_http.specs.declared.served.Served.TheVariants.{Answered, NoMemory}
 use Rattle.ojp_http.specs.Asking.{HttpReply}
 use Rattle.ojp_http.specs.Connections.{Serves, wire}
-use Rattle.ojp_http.specs.Laws.{AnswerIsReply, GivesOnly, IsHostText, RequestIsAsk}
+use Rattle.ojp_http.specs.Laws.{AnswerIsReply, GivesOnly, RequestIsAsk}
 use Rattle.ojp_http.specs.Responses.{request_bytes}
 use Rattle.ojp_http.specs.Serving.{RespondsWith, response}
 use Rattle.ojp_bodies.specs.Reading.{IsAsked}

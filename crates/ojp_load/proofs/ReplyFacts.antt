@@ -1,16 +1,14 @@
 -- A whole response is read back.
-use Rattle.std.proofs.Common.{◌≡◌, ℕ, ◌≤◌, List, [], ◌∷◌, ◌++◌, length, take, drop, refl, sym, ◌∙◌, ap, subst, append-nil, take-append-drop}
+use Rattle.std.proofs.Common.{◌≡◌, ℕ, List, [], ◌++◌, length, take, drop, refl, sym, ◌∙◌, ap, subst, append-nil, take-append-drop}
 use Rattle.std.proofs.Math.Seq.{take-length}
 use Rattle.std.specs.Prelude.{Result, Ok, Err}
-use Rattle.ojp_values.specs.Texts.{Text}
 use Rattle.ojp_values.specs.declared.documents.Doc.{Doc}
 use Rattle.ojp_values.specs.declared.documents.Doc.TheVariants as docs
 use Rattle.ojp_values.specs.declared.replies.Delivery.{Delivery}
 use Rattle.ojp_grammar.specs.Answering.{SpellsDelivery}
-use Rattle.ojp_grammar.specs.Documents.{IsWanted, items}
+use Rattle.ojp_grammar.specs.Documents.{items}
 use Rattle.ojp_grammar.specs.Items.{spell}
 use Rattle.ojp_grammar.specs.Laws.{OneSpelling}
-use Rattle.ojp_grammar.specs.declared.refusals.Want.{Want}
 use Rattle.ojp_grammar.specs.declared.refusals.Want.TheVariants as wants
 use Rattle.ojp_grammar.specs.declared.refusals.Refused.{Refused}
 use Rattle.ojp_decode.specs.declared.fed.Fed.{Fed}
@@ -23,13 +21,13 @@ use Rattle.ojp_decode.specs.Standing.{Feeds, HasRead, ReaderView}
 use Rattle.ojp_http.specs.Asking.{HttpReply}
 use Rattle.ojp_http.specs.Continued.{OpenHoldsNone}
 use Rattle.ojp_http.specs.Laws.{NoReplyBeginsAnother, OneBody}
-use Rattle.ojp_http.specs.Replying.{Answers, AnswersAt, BeginsNoReply, Grows, HasFed, HasFedAt, ReadsOn, ReplyView}
+use Rattle.ojp_http.specs.Replying.{Answers, AnswersAt, HasFed, HasFedAt, ReadsOn, ReplyView}
 use Rattle.ojp_http.specs.declared.fed.ReplyFed.{ReplyFed}
 use Rattle.ojp_http.specs.declared.fed.ReplyFed.TheVariants as feds
 use Rattle.ojp_http.specs.declared.fed.ReplyRefused.{ReplyRefused}
 use Rattle.ojp_http.specs.declared.fed.ReplyRefused.TheVariants as refused_as
 use Rattle.ojp_http.specs.declared.fed.Stage.{Stage}
-use Rattle.ojp_http.specs.declared.fed.Stage.TheVariants.{Reading, Whole}
+use Rattle.ojp_http.specs.declared.fed.Stage.TheVariants.{Reading}
 
 -- ---- the framing
 

@@ -1,6 +1,5 @@
 -- The links to the regions of a network, and what is known of its asks.
-use Rattle.std.specs.Prelude.{◌≡◌, ◌≢◌, ℕ, true, List, [], map}
-use Rattle.ojp_values.specs.Lists.{Each}
+use Rattle.std.specs.Prelude.{◌≡◌, ◌≢◌, ℕ, true, List, map}
 use Rattle.ojp_values.specs.Texts.{Text}
 use Rattle.ojp_timetable.specs.Tables.{Timetable}
 use Rattle.ojp_timetable.specs.TableText.{IsRefused as IsTextRefused}

@@ -1,4 +1,4 @@
-use Rattle.std.proofs.Common.{◌≡◌, ℕ, ◌-◌, Some, sym, ◌∙◌, ap, subst}
+use Rattle.std.proofs.Common.{ℕ, ◌-◌, Some, sym, ◌∙◌, ap, subst}
 use Rattle.ojp_load.specs.Asking.{IsToldOf}
 use Rattle.ojp_load.proofs.TripFacts.{told_fault, told_trip}
 use Rattle.ojp_load.proofs.asking.seconds_of.Goals as goal

@@ -1,4 +1,4 @@
-use Rattle.std.proofs.Common.{◌≡◌, ℕ, ◌+◌, ◌*◌, ◌≤◌, List, [], ◌∷◌, ◌++◌, length, take, sym, subst, ap, arith}
+use Rattle.std.proofs.Common.{ℕ, ◌+◌, List, [], ◌∷◌, take, sym, subst, arith}
 use Rattle.ojp_network.specs.declared.shapes.LoadAsk.{LoadAsk}
 use Rattle.ojp_load.specs.Asking.{Counts}
 use Rattle.ojp_load.specs.Loads.{seconds_of, trips_of}

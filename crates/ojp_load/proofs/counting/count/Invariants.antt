@@ -1,4 +1,4 @@
-use Rattle.std.proofs.Common.{◌≡◌, ◌*◌, ◌≤◌, List}
+use Rattle.std.proofs.Common.{◌*◌, ◌≤◌, List}
 use Rattle.std.specs.Prelude.{take}
 use Rattle.ojp_values.specs.Lists.{Each}
 use Rattle.ojp_timetable.specs.Tables.{Timetable}

@@ -1,10 +1,8 @@
-use Rattle.std.proofs.Common.{◌≡◌, ℕ, ◌≤◌, List, length, sym, ◌∙◌, subst, ap, arith}
+use Rattle.std.proofs.Common.{List, length, sym, ◌∙◌, subst, ap, arith}
 use Rattle.ojp_values.specs.Lists.{Each, Pairwise}
 use Rattle.ojp_values.specs.Texts.{Text}
 use Rattle.ojp_timetable.specs.TableText.{IsText}
-use Rattle.ojp_network.specs.Networks.{asks, files}
 use Rattle.ojp_network.specs.declared.shapes.LoadAsk.{LoadAsk}
-use Rattle.ojp_links_mem.specs.Memory.{links_of}
 use Rattle.ojp_load.specs.Asking.{Counts}
 use Rattle.ojp_load.specs.Loads.{IsSummary}
 use Rattle.ojp_load.specs.Ready.{IsAccepted, IsGoodAsk}

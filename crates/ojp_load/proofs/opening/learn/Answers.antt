@@ -1,4 +1,3 @@
-use Rattle.std.proofs.Common.{Err}
 use Rattle.ojp_links_mem.specs.Memory.{links_of}
 use Rattle.ojp_load.proofs.LinkFacts.{learned, only_memory}
 use Rattle.ojp_load.proofs.opening.learn.Goals as goal

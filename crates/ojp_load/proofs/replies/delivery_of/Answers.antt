@@ -1,5 +1,4 @@
-use Rattle.std.proofs.Common.{◌≡◌, sym, ◌∙◌, subst}
-use Rattle.ojp_values.specs.Texts.{Text}
+use Rattle.std.proofs.Common.{sym, ◌∙◌, subst}
 use Rattle.ojp_grammar.specs.Answering.{SpellsDelivery}
 use Rattle.ojp_load.proofs.PostFacts.{reply_is}
 use Rattle.ojp_load.proofs.replies.delivery_of.Goals as goal

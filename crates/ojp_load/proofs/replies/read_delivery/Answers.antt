@@ -1,10 +1,8 @@
-use Rattle.std.proofs.Common.{◌≡◌, Ok, Err, [], ◌∙◌, ap, sym, subst}
-use Rattle.std.specs.Prelude.{Result, take}
-use Rattle.ojp_values.specs.declared.documents.Doc.{Doc}
+use Rattle.std.proofs.Common.{◌≡◌, Ok, Err, [], ◌∙◌, ap, subst}
+use Rattle.std.specs.Prelude.{take}
 use Rattle.ojp_values.specs.declared.documents.Doc.TheVariants as docs
 use Rattle.ojp_grammar.specs.declared.refusals.Want.TheVariants as wants
 use Rattle.ojp_decode.specs.declared.fed.Fed.TheVariants as reads
-use Rattle.ojp_decode.specs.declared.fed.ReadRefused.{ReadRefused}
 use Rattle.ojp_decode.specs.declared.fed.ReadRefused.TheVariants.{At}
 use Rattle.ojp_decode.specs.Feeding.{IsRead}
 use Rattle.ojp_decode.specs.Progress.{reading, whole}
