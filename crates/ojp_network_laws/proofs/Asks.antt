@@ -1,21 +1,18 @@
 -- The asks of a network are for trips between two different known stops.
-use Rattle.std.proofs.Common.{◌≡◌, ◌≢◌, ℕ, ◌+◌, ◌*◌, ◌/◌, ◌%◌, ◌<◌, ◌≤◌, true, false, cond, List, [], ◌∷◌, length, refl, sym, ◌∙◌, ap, subst, arith}
-use Rattle.std.specs.Prelude.{Option, Some, None, ◌&&◌, ◌==◌, if◌then◌else◌}
-use Rattle.std.specs.List.{list_any}
+use Rattle.std.proofs.Common.{◌≡◌, ◌≢◌, ℕ, ◌+◌, ◌*◌, ◌/◌, ◌<◌, true, List, [], ◌∷◌, sym, ◌∙◌, ap, subst, arith}
+use Rattle.std.specs.Prelude.{Some, None, if◌then◌else◌}
 use Rattle.std.proofs.lemmas.Bool.Decides.{nat_tests}
-use Rattle.ojp_values.specs.Lists.{Among, Each}
-use Rattle.ojp_values.specs.Texts.{Text, code_part, home, same}
+use Rattle.ojp_values.specs.Texts.{code_part, home, same}
 use Rattle.ojp_values.proofs.ListFacts.{among_append_left, among_list_any}
 use Rattle.ojp_timetable.specs.GatewayAnswers.{IsPlace, IsPlaceBy}
 use Rattle.ojp_timetable.specs.Tables.{Place, Timetable, has}
 use Rattle.ojp_timetable.proofs.TextFacts.{same_itself}
-use Rattle.ojp_network.specs.Draws.{below, draw, state_after}
-use Rattle.ojp_network.specs.Networks.{apart, asks, load_ask, target_at}
+use Rattle.ojp_network.specs.Draws.{draw, state_after}
+use Rattle.ojp_network.specs.Networks.{apart, load_ask, target_at}
 use Rattle.ojp_network.specs.Regions.{digit, own_place, own_places, own_stop, region_code}
-use Rattle.ojp_network.specs.declared.shapes.LoadAsk.{LoadAsk}
 use Rattle.ojp_network_laws.specs.Laws.{AreTables, AsksAreGood, IsGood, all_places, drawn_table}
-use Rattle.ojp_network_laws.proofs.Names.{own_same, own_stop_code, own_stop_shared, region_same, two_same}
-use Rattle.ojp_network_laws.proofs.Numbered.{AreNumbered, IsDrawn, at_number, numbered}
+use Rattle.ojp_network_laws.proofs.Names.{own_stop_code, own_stop_shared, two_same}
+use Rattle.ojp_network_laws.proofs.Numbered.{IsDrawn, at_number, numbered}
 use Rattle.ojp_network_laws.proofs.Own.{among_below, each_below, length-below}
 use Rattle.ojp_network_laws.proofs.PlaceRows.{higher_place, lower_place}
 

@@ -1,5 +1,5 @@
 -- The regions of a network agree, so that they make a book.
-use Rattle.std.proofs.Common.{◌≡◌, ◌≢◌, ◌⊎◌, inl, inr, ℕ, zero, suc, ◌+◌, ◌-◌, ◌*◌, ◌<◌, ◌≤◌, Bool, true, false, ◌&&◌, ◌||◌, cond, nat_eq, nat_le, List, [], ◌∷◌, length, length-append, map, refl, sym, ◌∙◌, ap, subst, arith, true≢false}
+use Rattle.std.proofs.Common.{◌≡◌, ◌⊎◌, inl, inr, ℕ, suc, ◌+◌, ◌-◌, ◌*◌, ◌≤◌, Bool, true, false, ◌&&◌, ◌||◌, cond, nat_eq, nat_le, List, [], ◌∷◌, length, length-append, map, refl, sym, ◌∙◌, ap, subst, arith}
 use Rattle.std.specs.List.{flat_map, range_with_len}
 use Rattle.std.proofs.lemmas.List.{length-map}
 use Rattle.std.specs.List.Sorted.{IsPermutation}
@@ -14,10 +14,9 @@ use Rattle.ojp_values.proofs.Escapes.{and_true_left, and_true_right}
 use Rattle.ojp_timetable.specs.Tables.{Timetable}
 use Rattle.ojp_timetable.proofs.Orders.{IsOrder, text_order, then_order}
 use Rattle.ojp_exchange.specs.Book.{Book, HasLink, HasReturn, HasSpot, IsBookOf, Link, Spot, points_of, spot_lt}
-use Rattle.ojp_exchange.specs.Joins.{HaveOwnCodes, IsOneSided, IsRefused}
+use Rattle.ojp_exchange.specs.Joins.{HaveOwnCodes}
 use Rattle.ojp_exchange.specs.Kept.{stops_of}
 use Rattle.ojp_exchange.specs.declared.region_points.RegionPoints.{RegionPoints}
-use Rattle.ojp_exchange.specs.declared.refusals.BookRefused.{BookRefused}
 use Rattle.ojp_exchange.specs.declared.refusals.BookRefused.TheVariants as refusals
 use Rattle.ojp_exchange.proofs.MadeFacts.{among_map, code_list, map_among, own_codes}
 use Rattle.ojp_links.specs.Seen.{region_of_table}

@@ -1,15 +1,15 @@
 -- The timetables of a network, by the numbers of their regions.
-use Rattle.std.proofs.Common.{◌≡◌, ◌≢◌, ◌⊎◌, inl, inr, ℕ, zero, suc, ◌+◌, ◌*◌, ◌<◌, ◌≤◌, true, List, [], ◌∷◌, length, map, refl, sym, ◌∙◌, ap, subst, arith}
+use Rattle.std.proofs.Common.{◌≡◌, inl, inr, ℕ, zero, suc, ◌+◌, ◌*◌, ◌<◌, ◌≤◌, List, [], ◌∷◌, length, map, refl, sym, ◌∙◌, ap, subst, arith}
 use Rattle.std.proofs.Math.Nat.{eq-or-lt_of_le}
 use Rattle.std.specs.List.{range_with_len}
-use Rattle.ojp_values.specs.Lists.{Among, Each, IsRising, Pairwise}
+use Rattle.ojp_values.specs.Lists.{Among, IsRising, Pairwise}
 use Rattle.ojp_values.specs.Texts.{Text, text_lt}
 use Rattle.ojp_links.specs.Seen.{region_of_table}
 use Rattle.ojp_timetable.specs.Tables.{Timetable}
 use Rattle.ojp_timetable.specs.TableText.{IsRefused, IsText}
 use Rattle.ojp_timetable.specs.declared.lines.TableReason.{TableReason}
 use Rattle.ojp_network.specs.Draws.{below, state_after}
-use Rattle.ojp_network.specs.Networks.{file_of, files}
+use Rattle.ojp_network.specs.Networks.{file_of}
 use Rattle.ojp_network.specs.Regions.{region_code}
 use Rattle.ojp_network_laws.specs.Laws.{AreTables, CodesRise, FilesAreAccepted, drawn_table}
 use Rattle.ojp_network_laws.proofs.Files.{files_are_texts}
