@@ -1,3 +1,4 @@
 pub mod CheckFacts
+pub mod LoadFacts
 pub mod RunFacts
 pub mod WordFacts

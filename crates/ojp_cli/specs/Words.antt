@@ -1,14 +1,16 @@
 -- The words of a command line, and the command that they name.
 use Rattle.std.specs.declared.alloc.Global.{Global}
 use Rattle.std.specs.Fmt.{decimal}
-use Rattle.std.specs.Prelude.{◌≡◌, ◌≤◌, ℕ, Bool, true, false, String, string_bytes, map, length, List, [], ◌∷◌, Option, Some, None, codes, nat_eq, nat_lt, bytes_eq, if◌then◌else◌}
+use Rattle.std.specs.Prelude.{◌≡◌, ◌≤◌, ◌<◌, ◌^◌, ℕ, Bool, true, false, String, string_bytes, map, length, List, [], ◌∷◌, Option, Some, None, codes, nat_eq, nat_lt, bytes_eq, if◌then◌else◌}
 use Rattle.std.specs.List.{starts_with}
 use Rattle.ojp_values.specs.Texts.{Text}
 
--- a command: `plan` with the word of its order, where it has one, whether it tells its trace, and its timetable files; or `check`
+-- a command: `plan` with the word of its order, where it has one, whether it tells its trace, and its timetable files; `check`; or
+-- `load` with the word of its number
 pub data Command : Type 0 where
   Plan : Option Text → Bool → List Text → Command
   Check : Command
+  Load : Text → Command
 
 -- the word is an option: it begins with two hyphens
 abbrev pub is_option : Text → Bool
@@ -54,10 +56,17 @@ plan_words (word ∷ words) =
 abbrev pub one_word : Text → Option Command
 one_word word = if bytes_eq word (codes "check") then Some Check else None
 
+-- ---- `load NUMBER`
+
+-- two words: `load` and a number
+abbrev pub two_words : Text → Text → Option Command
+two_words word number = if bytes_eq word (codes "load") then Some (Load number) else None
+
 -- a word that is not `plan`, and those behind it
 abbrev pub other_words : Text → List Text → Option Command
 other_words word [] = one_word word
-other_words word (second ∷ more) = None
+other_words word (second ∷ []) = two_words word second
+other_words word (second ∷ third ∷ more) = None
 
 -- ---- all words
 
@@ -70,6 +79,10 @@ command_of (word ∷ words) = if bytes_eq word (codes "plan") then plan_words wo
 abbrev pub IsOrder : Option Text → ℕ → Type 0
 IsOrder None order = order ≡ 0
 IsOrder (Some word) order = (order ≤ 10) × (decimal order ≡ word)
+
+-- the number of a network: from 0 to 4,294,967,295
+abbrev pub IsNumber : Text → ℕ → Type 0
+IsNumber word number = (number < 2 ^ 32) × (decimal number ≡ word)
 
 -- the words as their bytes
 abbrev pub texts_of : List (String Global) → List Text

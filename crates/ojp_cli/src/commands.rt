@@ -1,3 +1,4 @@
 //! The commands, each in a file of its own.
 
 pub mod check;
+pub mod load;

@@ -7,6 +7,7 @@ ghost use Rattle.ojp_cli.specs.Words.{named_by};
 ghost use Rattle.ojp_cli.specs.Runs.{RunsAs, IsDue};
 
 use crate::commands::check::check;
+use crate::commands::load::load_network;
 use crate::words::{Command, read_order, read_words};
 use ojp_links_mem::FileLinks;
 use ojp_outside::{Sink, Source, Store};
@@ -18,8 +19,10 @@ use std::alloc::Global;
 ///
 /// `plan [--order N] [--trace] FILE..` reads 1 to 32 timetable files and one request document, and writes the delivery
 /// document with which their regions answer it together; N, from 0 to 10, is the order in which their replies become ready,
-/// and with `--trace` the lines of the search are written to standard error before. `check` reads one document and writes the name of its request or delivery element, as a line. Both read the input to its end,
-/// or to the first bytes that refuse the document whatever follows.
+/// and with `--trace` the lines of the search are written to standard error before. `check` reads one document and writes
+/// the name of its request or delivery element, as a line. Both read the input to its end, or to the first bytes that refuse
+/// the document whatever follows. `load NUMBER` makes a network of regions and asks from the number, puts the asks through
+/// the gateway, and writes four lines about their trips.
 pub fn run_here<I: Source, O: Sink, E: Sink, F: Store + Drop>(
     alloc: Global,
     words: &[String],
@@ -60,6 +63,7 @@ pub fn run_here<I: Source, O: Sink, E: Sink, F: Store + Drop>(
             ),
             None => conclude(&Err(Failure::Words), faults),
         },
+        Some(Command::Load(number)) => load_network(alloc, number, output, faults),
         Some(Command::Check) => conclude(&check(alloc, input, output), faults),
         None => conclude(&Err(Failure::Words), faults),
     }

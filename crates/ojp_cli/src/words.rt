@@ -1,7 +1,7 @@
 //! The words of a command line.
 
 ghost use Rattle.std.specs.Prelude.{◌≡◌, ℕ, Some, None, MatchOption};
-ghost use Rattle.ojp_cli.specs.Words.{named_by, is_option, behind_order, one_word, order_words, other_words, plan_of, plan_words, texts_of, trace_words, traced_words, IsOrder};
+ghost use Rattle.ojp_cli.specs.Words.{named_by, is_option, behind_order, one_word, order_words, other_words, plan_of, plan_words, texts_of, trace_words, traced_words, two_words, IsNumber, IsOrder};
 ghost use Rattle.ojp_cli.specs.Commands.{meaning, text_in};
 
 use ojp_values::read_number;
@@ -27,6 +27,8 @@ pub(crate) enum Command<'a> {
     Plan(PlanWords<'a>),
     /// Says which document the input is.
     Check,
+    /// Puts the asks of the network of a number through the gateway.
+    Load(&'a str),
 }
 
 /// The command of the words; `None` for words of another form.
@@ -141,6 +143,7 @@ fn other_command<'a>(word: &'a str, rest: &'a [String]) -> Option<Command<'a>>
 {
     match rest {
         [] => check_command(word),
+        [number] => load_command(word, number.as_str()),
         _ => None,
     }
 }
@@ -152,6 +155,26 @@ fn check_command(word: &str) -> Option<Command<'_>>
         Some(Command::Check)
     } else {
         None
+    }
+}
+
+fn load_command<'a>(word: &'a str, number: &'a str) -> Option<Command<'a>>
+    ensures { meaning result ≡ two_words word.now number.now }
+{
+    if word == "load" {
+        Some(Command::Load(number))
+    } else {
+        None
+    }
+}
+
+/// The number of a network that the word names.
+pub(crate) fn read_network(word: &str) -> Option<u64>
+    ensures { MatchOption result ((number : ℕ) → IsNumber word.now number → ⊥) (IsNumber word.now) }
+{
+    match read_number(word.as_bytes()) {
+        Some(number) => Some(u64::from(number)),
+        None => None,
     }
 }
 
