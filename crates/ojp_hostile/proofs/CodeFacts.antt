@@ -1,0 +1,65 @@
+-- Codes that differ, and one code more.
+use Rattle.std.proofs.Common.{◌≡◌, ◌≢◌, ℕ, zero, suc, ◌<◌, false, List, [], ◌∷◌, ◌++◌, length, map, Some, slice_get, ◌⊎◌, refl, sym, ◌∙◌, ap, subst, inl, inr, arith}
+use Rattle.std.specs.List.{list_any}
+use Rattle.std.proofs.lemmas.List.{length-map, map-append}
+use Rattle.std.proofs.lemmas.Option.{none-some, same_Some}
+use Rattle.ojp_values.specs.Lists.{Among}
+use Rattle.ojp_values.specs.Texts.{Text, same}
+use Rattle.ojp_values.proofs.ListFacts.{Member, among_map_back, none_list_any}
+use Rattle.ojp_timetable.specs.Tables.{Timetable}
+use Rattle.ojp_timetable.proofs.TextFacts.{is_same}
+use Rattle.ojp_links.specs.Seen.{AreDistinct, View, code_at, code_in, code_of_station, codes_of, region_of_table}
+use Rattle.ojp_links.specs.Calls.{IsNewCode}
+
+among_of : {X : Type 0} (xs : List X) (k : ℕ) (x : X) → slice_get xs k ≡ Some x → Among x xs
+among_of [] k x e = absurd (none-some x e)
+among_of (y ∷ xs) zero x e = inl (sym (same_Some y x e))
+among_of (y ∷ xs) (suc k) x e = inr (among_of xs k x e)
+
+record LastOrBefore {X : Type 0} (xs : List X) (x y : X) (k : ℕ) : Type 0 where
+  cases : ((k ≡ length xs) × (y ≡ x)) ⊎ (slice_get xs k ≡ Some y)
+
+last_or_before : {X : Type 0} (xs : List X) (x y : X) (k : ℕ) → slice_get (xs ++ x ∷ []) k ≡ Some y → LastOrBefore xs x y k
+last_or_before [] x y zero e = record { cases = inl (refl, sym (same_Some x y e)) }
+last_or_before [] x y (suc k) e = absurd (none-some y e)
+last_or_before (z ∷ xs) x y zero e = record { cases = inr e }
+last_or_before (z ∷ xs) x y (suc k) e = elim (last_or_before xs x y k e).cases [
+  | inl h ↦ record { cases = inl (ap suc h.0, h.1) }
+  | inr h ↦ record { cases = inr h }
+]
+
+distinct_more : (codes : List Text) (code : Text) → AreDistinct codes → ((k : ℕ) (other : Text) → slice_get codes k ≡ Some other → other ≢ code) → AreDistinct (codes ++ code ∷ [])
+distinct_more codes code distinct apart i j x a b = elim (last_or_before codes code x i a).cases [
+  | inl h ↦ elim (last_or_before codes code x j b).cases [
+    | inl k ↦ h.0 ∙ sym k.0
+    | inr k ↦ absurd (apart j x k h.1)
+  ]
+  | inr h ↦ elim (last_or_before codes code x j b).cases [
+    | inl k ↦ absurd (apart i x h k.1)
+    | inr k ↦ distinct i j x h k
+  ]
+]
+
+pub none_distinct : AreDistinct (map region_of_table [])
+none_distinct i j x a b = absurd (none-some x a)
+
+pub tables_more : (tables all : List Timetable) (table : Timetable) (code : Text) → code ≡ table.region → AreDistinct (map region_of_table tables) → list_any (λ (it : Timetable). same code it.region) tables ≡ false
+    → all ≡ tables ++ table ∷ [] → AreDistinct (map region_of_table all)
+tables_more tables all table code own distinct none e =
+    subst (λ (codes : List Text). AreDistinct codes) (sym (ap (map region_of_table) e ∙ map-append region_of_table tables (table ∷ []))) (distinct_more (map region_of_table tables) table.region distinct apart)
+  where
+    apart : (k : ℕ) (other : Text) → slice_get (map region_of_table tables) k ≡ Some other → other ≢ table.region
+    apart k other at is =
+        let m : Member tables (λ (it : Timetable). other ≡ region_of_table it) = among_map_back region_of_table other tables (among_of (map region_of_table tables) k other at) in
+        none_list_any (λ (it : Timetable). same code it.region) m.item tables none m.among (is_same code m.item.region (own ∙ (sym is ∙ m.holds)))
+
+among_at : (xs : List Text) (r : ℕ) → r < length xs → Among (code_in xs r) xs
+among_at [] r l = absurd (omega (arith, l))
+among_at (x ∷ xs) zero l = inl refl
+among_at (x ∷ xs) (suc r) l = inr (among_at xs r (omega (arith, l)))
+
+pub new_code : (v : View) (codes : List Text) (code : Text) → codes_of v.fixed ≡ codes → list_any (same code) codes ≡ false → IsNewCode v code
+new_code v codes code are none r below e =
+    let within : r < length (codes_of v.fixed) = omega (arith, below, length-map v.fixed.stations code_of_station) in
+    let among : Among (code_at v r) codes = subst (λ (cs : List Text). Among (code_at v r) cs) are (among_at (codes_of v.fixed) r within) in
+    none_list_any (same code) (code_at v r) codes none among (is_same code (code_at v r) (sym e))
