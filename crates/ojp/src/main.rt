@@ -5,6 +5,7 @@ use ojp_cli::{run_here, run_net};
 use ojp_links_mem::FileLinks;
 use ojp_links_net::NetLinks;
 use ojp_outside::{FileStore, StdClock, StdSink, StdSource, TcpDoors, put_all};
+use std::io::ErrorKind;
 use std::process::ExitCode;
 use std::{env, io};
 
@@ -13,12 +14,10 @@ const NO_MEMORY: (u8, &[u8]) = (5, b"no memory\n");
 
 fn main(mut rt: HostRuntime) -> ExitCode {
     let alloc = rt.alloc();
-    // Where the words can't be had as text there are none, and the top call refuses them.
-    let words = words_of(&rt).unwrap_or(Vec::new(alloc));
     let mut input = StdSource::new(rt.stdin());
     let mut output = StdSink::new(rt.stdout());
     let mut faults = StdSink::new(rt.stderr());
-    let Ok(parts) = parts_of(&rt) else {
+    let (Some(words), Ok(parts)) = (words_of(&rt), parts_of(&rt)) else {
         let _ = put_all(&mut faults, NO_MEMORY.1);
         return ExitCode::from(NO_MEMORY.0);
     };
@@ -78,8 +77,19 @@ fn parts_of(rt: &HostRuntime) -> io::Result<Parts> {
     })
 }
 
-/// The words behind the program's name.
-fn words_of(rt: &HostRuntime) -> io::Result<Vec<String>> {
+/// The words behind the program's name; none where memory ran out. Where they can't be had as text the list is empty, and the
+/// top call refuses it.
+fn words_of(rt: &HostRuntime) -> Option<Vec<String>> {
+    match read_words(rt) {
+        Ok(words) => Some(words),
+        Err(error) => match error.kind() {
+            ErrorKind::OutOfMemory => None,
+            _ => Some(Vec::new(rt.alloc())),
+        },
+    }
+}
+
+fn read_words(rt: &HostRuntime) -> io::Result<Vec<String>> {
     let mut words = Vec::new(rt.alloc());
     for word in env::args(rt)?.skip(1) {
         words.push(word)?;
