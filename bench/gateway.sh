@@ -4,17 +4,13 @@
 # and the middle of their times; then the same with one region behind a forwarder that holds back each of its replies for 50 ms:
 # asks of one round overlap, so a trip takes longer by its rounds through that region and not by its asks.
 top=$(cd "$(dirname "$0")/.." && pwd)
-program=$top/crates/ojp/out/ojp
-network=$top/examples/network
+ojp=$top/crates/ojp/out/ojp
 requests=${1:-300}
 port=${PORT:-48300}
-[ -x "$program" ] || { echo "build the program first: ./ojp check < examples/plan/request.xml" >&2; exit 1; }
+[ -x "$ojp" ] || { echo "build the program first: ./ojp check < examples/plan/request.xml" >&2; exit 1; }
 folder=$(mktemp -d)
 trap 'kill $(jobs -p) 2>/dev/null; rm -rf "$folder"' EXIT
-
-await() {
-  until [ -s "$1" ]; do sleep 0.01; done
-}
+. "$top/examples/network/start.sh"
 
 # Forwards each connection to PORT, the first byte of its reply held back for 50 ms.
 cat > "$folder/forward.py" <<'PY'
@@ -45,24 +41,15 @@ async def main():
 asyncio.run(main())
 PY
 
-at=$port
-for name in channel jura paris rhine thames; do
-  at=$((at + 1))
-  "$program" region "$network/$name.tt" "$at" > "$folder/$name" &
-  code=$(sed -n 's/^region //p' "$network/$name.tt")
-  echo "$code 127.0.0.1 $at" >> "$folder/regions.txt"
-  if [ "$name" = paris ]; then
-    python3 "$folder/forward.py" $((port + 20)) "$at" 0.05 > "$folder/forward" &
-    echo "$code 127.0.0.1 $((port + 20))" >> "$folder/delayed.txt"
-  else
-    echo "$code 127.0.0.1 $at" >> "$folder/delayed.txt"
-  fi
-done
-for name in channel jura paris rhine thames forward; do await "$folder/$name"; done
+start_regions "$port"
+paris=$(sed -n 's/^PARIS 127.0.0.1 //p' "$folder/regions.txt")
+python3 "$folder/forward.py" $((port + 20)) "$paris" 0.05 > "$folder/forward" &
+await "$folder/forward"
+sed "s/^PARIS 127.0.0.1 .*/PARIS 127.0.0.1 $((port + 20))/" "$folder/regions.txt" > "$folder/delayed.txt"
 
 measure() {
   local what=$1 regions=$2 document=$3 count=$4 begin elapsed
-  "$program" gateway "$regions" "$port" --count $((count + 1)) > "$folder/gateway" &
+  "$ojp" gateway "$regions" "$port" --count $((count + 1)) > "$folder/gateway" &
   gateway=$!
   await "$folder/gateway"
   curl -sS --fail -o /dev/null --data-binary "@$document" -H 'Content-Type: application/xml' "http://127.0.0.1:$port/ojp" || exit 1

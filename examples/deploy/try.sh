@@ -3,34 +3,18 @@
 # and what is refused at the front: examples/deploy/try.sh
 set -u
 here=$(cd "$(dirname "$0")" && pwd)
-top=$here/../..
-network=$top/examples/network
+ojp=$here/../../ojp
 for tool in nginx curl openssl; do
   command -v "$tool" > /dev/null || { echo "not tried: $tool is not installed"; exit 0; }
 done
 folder=$(mktemp -d)
 chmod 755 "$folder"
+. "$here/../network/start.sh"
 trap 'nginx -c "$folder/nginx.conf" -s stop 2>/dev/null; kill $(jobs -p) 2>/dev/null; rm -rf "$folder"' EXIT
 
-await() {
-  for _ in $(seq 200); do
-    grep -q ready "$1" && return
-    sleep 0.05
-  done
-  echo "no server is ready: $1" >&2
-  exit 1
-}
-
-"$top/ojp" check < "$network/reading-olten.xml" > /dev/null || exit 1
-at=48400
-for name in channel jura paris rhine thames; do
-  at=$((at + 1))
-  "$top/ojp" region "$network/$name.tt" "$at" > "$folder/$name" &
-  echo "$(sed -n 's/^region //p' "$network/$name.tt") 127.0.0.1 $at" >> "$folder/regions.txt"
-done
-for name in channel jura paris rhine thames; do await "$folder/$name"; done
+start_regions 48400
 for port in 8081 8082; do
-  "$top/ojp" gateway "$folder/regions.txt" "$port" > "$folder/$port" &
+  "$ojp" gateway "$folder/regions.txt" "$port" > "$folder/$port" &
   await "$folder/$port"
 done
 

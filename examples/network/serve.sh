@@ -9,26 +9,9 @@ request=${1:-$here/reading-olten.xml}
 port=${PORT:-48200}
 folder=$(mktemp -d)
 trap 'kill $(jobs -p) 2>/dev/null; rm -rf "$folder"' EXIT
+. "$here/start.sh"
 
-# Waits until the server whose standard output goes to the file says that it listens.
-await() {
-  for _ in $(seq 200); do
-    grep -q ready "$1" && return
-    sleep 0.05
-  done
-  echo "no server is ready: $1" >&2
-  exit 1
-}
-
-# Built once, so that the servers start at once.
-"$ojp" check < "$request" > /dev/null || exit 1
-at=$port
-for name in channel jura paris rhine thames; do
-  at=$((at + 1))
-  "$ojp" region "$here/$name.tt" "$at" > "$folder/$name" &
-  echo "$(sed -n 's/^region //p' "$here/$name.tt") 127.0.0.1 $at" >> "$folder/regions.txt"
-done
-for name in channel jura paris rhine thames; do await "$folder/$name"; done
+start_regions "$port"
 "$ojp" gateway "$folder/regions.txt" "$port" > "$folder/gateway" &
 await "$folder/gateway"
 curl -sS --fail-with-body --data-binary "@$request" -H 'Content-Type: application/xml' "http://127.0.0.1:$port/ojp"
