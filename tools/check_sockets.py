@@ -6,6 +6,7 @@ what was tried with its outcome, and ends with 1 where one was not as it should 
 """
 import os
 import pathlib
+import re
 import socket
 import subprocess
 import sys
@@ -183,6 +184,29 @@ def five_regions(folder):
     say("no descriptor is left after 50 more trips", descriptors(gateway) == first)
 
 
+def rows(folder):
+    """The stored rows of a region over sockets: to the region by length and in a chunk, and through a gateway over it."""
+    crate = TOP / "crates/ojp_rows"
+    stored = (crate / "stdout").read_bytes().replace(b"\r\n", b"\n")
+    given = [row.partition(b"----\n") for row in (crate / "stdin").read_bytes().split(b"====\n")]
+    given = [(table, body.removesuffix(b"\n")) for table, _, body in given if not body.startswith((b"raw\n", b"fails "))]
+    by_region = by_gateway = len(given) > 0
+    for lines, document in given:
+        table, regions = folder / "row.tt", folder / "row.txt"
+        table.write_bytes(lines)
+        port, second = free_port(), free_port()
+        regions.write_bytes(b"%s 127.0.0.1 %d\n" % (re.search(rb"region (.*)", lines)[1], port))
+        started("region", table, port)
+        started("gateway", regions, second)
+        chunked = b"POST /ojp HTTP/1.1\r\nHost: x\r\nTransfer-Encoding: chunked\r\n\r\n%x\r\n%s\r\n0\r\n\r\n" % (len(document), document)
+        whole = exchange(port, post(port, document))
+        by_region &= whole.replace(b"\r\n", b"\n") in stored and exchange(port, chunked) == whole
+        status, planned, line = run("plan", table, given=document)
+        by_gateway &= answer(second, document) == (planned if status == 0 else line)
+    say(f"{len(given)} stored rows to a region over sockets, by length and in a chunk", by_region)
+    say("the same through a gateway: what plan answers", by_gateway)
+
+
 def descriptors(child):
     """How many the process has once the last connection has ended on its side too."""
     time.sleep(0.3)
@@ -193,6 +217,7 @@ def main():
     with tempfile.TemporaryDirectory() as folder:
         try:
             one_region(pathlib.Path(folder))
+            rows(pathlib.Path(folder))
             five_regions(pathlib.Path(folder))
         finally:
             for child in children:
