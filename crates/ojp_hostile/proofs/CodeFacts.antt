@@ -5,11 +5,12 @@ use Rattle.std.proofs.lemmas.List.{length-map, map-append}
 use Rattle.std.proofs.lemmas.Option.{none-some, same_Some}
 use Rattle.ojp_values.specs.Lists.{Among}
 use Rattle.ojp_values.specs.Texts.{Text, same}
-use Rattle.ojp_values.proofs.ListFacts.{Member, among_map_back, none_list_any}
+use Rattle.ojp_values.proofs.ListFacts.{none_list_any}
 use Rattle.ojp_timetable.specs.Tables.{Timetable}
 use Rattle.ojp_timetable.proofs.TextFacts.{is_same}
 use Rattle.ojp_links.specs.Seen.{AreDistinct, View, code_at, code_in, code_of_station, codes_of, region_of_table}
 use Rattle.ojp_links.specs.Calls.{IsNewCode}
+use Rattle.ojp_hostile.specs.Ready.{AreOfRegions}
 
 among_of : {X : Type 0} (xs : List X) (k : ℕ) (x : X) → slice_get xs k ≡ Some x → Among x xs
 among_of [] k x e = absurd (none-some x e)
@@ -40,26 +41,26 @@ distinct_more codes code distinct apart i j x a b = elim (last_or_before codes c
   ]
 ]
 
-pub none_distinct : AreDistinct (map region_of_table [])
-none_distinct i j x a b = absurd (none-some x a)
+pub no_tables : AreOfRegions [] []
+no_tables = record { are = refl; distinct = λ i j x a b. absurd (none-some x a) }
 
-pub tables_more : (tables all : List Timetable) (table : Timetable) (code : Text) → code ≡ table.region → AreDistinct (map region_of_table tables) → list_any (λ (it : Timetable). same code it.region) tables ≡ false
-    → all ≡ tables ++ table ∷ [] → AreDistinct (map region_of_table all)
-tables_more tables all table code own distinct none e =
-    subst (λ (codes : List Text). AreDistinct codes) (sym (ap (map region_of_table) e ∙ map-append region_of_table tables (table ∷ []))) (distinct_more (map region_of_table tables) table.region distinct apart)
+pub tables_more : (tables all : List Timetable) (table : Timetable) (codes more : List Text) (code : Text) → code ≡ table.region → AreOfRegions codes tables → list_any (λ (other : Text). same other code) codes ≡ false
+    → all ≡ tables ++ table ∷ [] → more ≡ codes ++ code ∷ [] → AreOfRegions more all
+tables_more tables all table codes more code own regions none by_table by_code = record {
+  are = ap (map region_of_table) by_table ∙ (map-append region_of_table tables (table ∷ []) ∙ (ap (λ (cs : List Text). cs ++ table.region ∷ []) regions.are ∙ (ap (λ (c : Text). codes ++ c ∷ []) (sym own) ∙ sym by_code)));
+  distinct = subst (λ (cs : List Text). AreDistinct cs) (sym by_code) (distinct_more codes code regions.distinct apart);
+}
   where
-    apart : (k : ℕ) (other : Text) → slice_get (map region_of_table tables) k ≡ Some other → other ≢ table.region
-    apart k other at is =
-        let m : Member tables (λ (it : Timetable). other ≡ region_of_table it) = among_map_back region_of_table other tables (among_of (map region_of_table tables) k other at) in
-        none_list_any (λ (it : Timetable). same code it.region) m.item tables none m.among (is_same code m.item.region (own ∙ (sym is ∙ m.holds)))
+    apart : (k : ℕ) (other : Text) → slice_get codes k ≡ Some other → other ≢ code
+    apart k other at is = none_list_any (λ (o : Text). same o code) other codes none (among_of codes k other at) (is_same other code is)
 
 among_at : (xs : List Text) (r : ℕ) → r < length xs → Among (code_in xs r) xs
 among_at [] r l = absurd (omega (arith, l))
 among_at (x ∷ xs) zero l = inl refl
 among_at (x ∷ xs) (suc r) l = inr (among_at xs r (omega (arith, l)))
 
-pub new_code : (v : View) (codes : List Text) (code : Text) → codes_of v.fixed ≡ codes → list_any (same code) codes ≡ false → IsNewCode v code
+pub new_code : (v : View) (codes : List Text) (code : Text) → codes_of v.fixed ≡ codes → list_any (λ (other : Text). same other code) codes ≡ false → IsNewCode v code
 new_code v codes code are none r below e =
     let within : r < length (codes_of v.fixed) = omega (arith, below, length-map v.fixed.stations code_of_station) in
     let among : Among (code_at v r) codes = subst (λ (cs : List Text). Among (code_at v r) cs) are (among_at (codes_of v.fixed) r within) in
-    none_list_any (same code) (code_at v r) codes none among (is_same code (code_at v r) (sym e))
+    none_list_any (λ (other : Text). same other code) (code_at v r) codes none among (is_same (code_at v r) code e)

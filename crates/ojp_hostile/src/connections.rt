@@ -121,10 +121,16 @@ fn by_waiting<R: Runtime>(
 
 /// The body of a response.
 pub(crate) fn body_of(output: &MemSink) -> Option<&str> {
-    let (_, body) = str::from_utf8(output.written())
-        .ok()?
-        .split_once("\r\n\r\n")?;
+    let (_, body) = text_of(output)?.split_once("\r\n\r\n")?;
     Some(body)
+}
+
+/// What was written, as text.
+fn text_of(output: &MemSink) -> Option<&str> {
+    match str::from_utf8(output.written()) {
+        Ok(text) => Some(text),
+        Err(_) => None,
+    }
 }
 
 /// Each read up to the last one fails in turn, and nothing is written then.

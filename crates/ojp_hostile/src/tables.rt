@@ -4,6 +4,7 @@ ghost use Rattle.std.specs.Prelude.{◌≡◌, IfSome, map};
 ghost use Rattle.std.specs.List.{list_any};
 ghost use Rattle.ojp_values.specs.Texts.{same};
 ghost use Rattle.ojp_links.specs.Seen.{AreDistinct, region_of_table};
+ghost use Rattle.ojp_hostile.specs.Ready.{AreOfRegions};
 
 use ojp_timetable::table::Timetable;
 use ojp_values::Code;
@@ -14,35 +15,37 @@ pub(crate) fn tables_of(alloc: Global, text: &str) -> Option<Vec<Timetable>>
     ensures { IfSome result (λ tables. AreDistinct (map region_of_table tables.items)) }
 {
     let mut tables = Vec::new(alloc);
+    let mut codes = Vec::new(alloc);
     'tables: for part in text.split("----\n") {
         let Ok(table) = Timetable::read(alloc, part.as_bytes()) else {
             return None;
         };
-        tables = with_table(tables, table)?;
+        add_table(&mut tables, &mut codes, table)?;
     }
     Some(tables)
 }
 
-/// The timetables with one more, whose region none of them has.
-fn with_table(tables: Vec<Timetable>, table: Timetable) -> Option<Vec<Timetable>>
-    requires { AreDistinct (map region_of_table tables.items) }
-    ensures { IfSome result (λ tables. AreDistinct (map region_of_table tables.items)) }
+/// Adds the timetable, whose region none of the others has, and its region to theirs.
+fn add_table(tables: &mut Vec<Timetable>, codes: &mut Vec<Code>, table: Timetable) -> Option<()>
+    requires { AreOfRegions codes.old.items tables.old.items }
+    ensures { IfSome result (λ done. AreOfRegions codes.new.items tables.new.items) }
 {
     let code = table.region();
-    if has_region(tables.as_slice(), &code) {
+    if has_code(codes.as_slice(), &code) {
         return None;
     }
-    let mut tables = tables;
     let Ok(()) = tables.push(table) else {
         return None;
     };
-    Some(tables)
+    let Ok(()) = codes.push(code) else {
+        return None;
+    };
+    Some(())
 }
 
-/// Whether one of the timetables is of the region.
-#[tactic(auto, unfolding(ojp_values::specs::Texts::same))]
-fn has_region(tables: &[Timetable], code: &Code) -> bool
-    ensures { result ≡ list_any (λ table. same code.now table.region) tables.now }
+/// Whether the code is among these.
+pub(crate) fn has_code(codes: &[Code], code: &Code) -> bool
+    ensures { result ≡ list_any (λ other. same other code.now) codes.now }
 {
-    tables.iter().any(|table| *code == table.region())
+    codes.contains(code)
 }

@@ -1,15 +1,13 @@
 //! A gateway whose regions are added by their codes.
 
-ghost use Rattle.std.specs.Prelude.{◌≡◌, IfSome};
-ghost use Rattle.std.specs.List.{list_any};
-ghost use Rattle.ojp_values.specs.Texts.{same};
+ghost use Rattle.std.specs.Prelude.{IfSome};
 ghost use Rattle.ojp_links.specs.Seen.{NoneLive};
 ghost use Rattle.ojp_links_mem.specs.Memory.{links_of};
 ghost use Rattle.ojp_hostile.specs.Ready.{HasCodes, IsReady};
 
 use crate::connections::{NONE_FAILS, Outcome, connection};
 use crate::gates::serve_by_waits;
-use crate::tables::tables_of;
+use crate::tables::{has_code, tables_of};
 use crate::texts::{named, request_of};
 use ojp_exchange::Book;
 use ojp_gateway::learn_waiting;
@@ -105,12 +103,4 @@ fn add_region(links: &mut MemLinks, codes: &mut Vec<Code>, name: &str) -> Option
         return None;
     };
     Some(())
-}
-
-/// Whether the code is among these.
-#[tactic(auto, unfolding(ojp_values::specs::Texts::same))]
-fn has_code(codes: &[Code], code: &Code) -> bool
-    ensures { result ≡ list_any (same code.now) codes.now }
-{
-    codes.iter().any(|other| *code == *other)
 }
