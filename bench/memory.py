@@ -123,7 +123,7 @@ def main():
     if not os.access(PROGRAM, os.X_OK):
         sys.exit('build the program first: ./ojp check < examples/plan/request.xml')
     request = (TOP / 'examples/plan/request.xml').read_bytes()
-    far = request.replace(b'AA:b', b'BB:z').replace(b'T08:00:00Z', b'T07:55:00Z')
+    far = request.replace(b'AA:b', b'BB:z').replace(b'08:00:00Z', b'07:55:00Z')
     with tempfile.TemporaryDirectory() as name:
         folder = pathlib.Path(name)
         for file, text in PLAN.items():
