@@ -4,19 +4,18 @@ ghost use Rattle.std.specs.Prelude.{◌≡◌, ℕ, IfOk, List, []};
 ghost use Rattle.ojp_values.specs.Limits.{IsWellDelivery};
 ghost use Rattle.ojp_timetable.specs.GatewayAnswers.{GatewayAnswers};
 ghost use Rattle.ojp_timetable.specs.Tables.{Timetable};
-ghost use Rattle.ojp_grammar.specs.Answering.{SpellsDelivery};
 ghost use Rattle.ojp_links_mem.specs.Files.{links_seen};
 ghost use Rattle.ojp_plan.specs.Plans.{AnswersAs, IsTraceFor};
 ghost use Rattle.ojp_plan.specs.Ready.{IsLearnedOf};
 
-use ojp_encode::write;
+use ojp_bodies::spell;
 use ojp_exchange::Book;
 use ojp_gateway::answer_paced;
 use ojp_links::Links;
 use ojp_links_mem::FileLinks;
-use ojp_outside::{MemSink, Store, WriteFault};
+use ojp_outside::{MemSink, Store};
 use ojp_traces::Trace;
-use ojp_values::{Ask, Delivery, Doc, NoMemory};
+use ojp_values::{Ask, Delivery, NoMemory};
 use std::alloc::Global;
 
 /// The document of the answer, in memory.
@@ -33,7 +32,7 @@ pub(crate) fn answer_text<F: Store + Drop>(
         → IfOk result (λ text. IsTraceFor trace.old.on given order ask.now trace.new.lines) }
 {
     let delivery = answer_ask(alloc, book, files, ask, trace)?;
-    text_of(alloc, delivery)
+    spell(alloc, delivery)
 }
 
 /// What the regions answer together; it is within the limits of a document.
@@ -56,18 +55,5 @@ fn answer_ask<F: Store + Drop>(
     match answer {
         Ok(answer) => Ok(answer.delivery),
         Err(NoMemory) => Err(NoMemory),
-    }
-}
-
-/// The document of the delivery, in memory.
-fn text_of(alloc: Global, delivery: Delivery) -> Result<MemSink, NoMemory>
-    requires { IsWellDelivery delivery }
-    ensures { IfOk result (λ text. SpellsDelivery delivery text.written) }
-{
-    let mut text = MemSink::new(alloc, Vec::new(alloc));
-    match write(&Doc::Delivery(delivery), &mut text) {
-        Ok(()) => Ok(text),
-        // A sink in memory that no write is to fail has only want of memory.
-        Err(WriteFault) => Err(NoMemory),
     }
 }
