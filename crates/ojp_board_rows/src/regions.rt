@@ -7,7 +7,7 @@ ghost use Rattle.ojp_exchange.specs.Joins.{AreWellLists};
 use ojp_exchange::{Book, RegionPoints, points_of};
 use ojp_region::answer;
 use ojp_scan::Scan;
-use ojp_timetable::table::Timetable;
+use ojp_timetable::Timetable;
 use ojp_values::{Ask, Code, Delivery};
 use std::alloc::Global;
 

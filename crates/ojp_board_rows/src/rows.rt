@@ -8,7 +8,7 @@ use crate::shown::{show_fault, show_point, show_query, show_trip};
 use ojp_exchange::Book;
 use ojp_join::joined;
 use ojp_labels::{Board, Query};
-use ojp_timetable::table::Timetable;
+use ojp_timetable::Timetable;
 use ojp_values::{StopRef, read_number};
 
 /// Writes what comes of the row: its timetables, a line of dashes, its ask, and a step a line.

@@ -8,7 +8,7 @@ use crate::regions::answer_of;
 use ojp_exchange::Book;
 use ojp_labels::{Board, Query};
 use ojp_links::{Expect, fits};
-use ojp_timetable::table::Timetable;
+use ojp_timetable::Timetable;
 use ojp_values::{Code, Instant, StopRef, TripAsk};
 use std::alloc::Global;
 

@@ -11,7 +11,7 @@ use crate::fed::{Fed, ReadRefused, Stage};
 use arrayvec::ArrayVec;
 use ojp_grammar::machine::{Cut, Machine, stays_cut};
 use ojp_grammar::refusals::{Reason, Refused, Want};
-use ojp_values::documents::Doc;
+use ojp_values::Doc;
 use std::alloc::Global;
 use std::marker::Model;
 

@@ -1,14 +1,14 @@
 //! The book: what the exchange points of a list of regions declare.
 #![tactic(auto)]
 
-pub mod book;
+mod book;
 mod collected;
 mod joins;
 mod places;
-pub mod points;
-pub mod refusals;
-pub mod region_points;
-pub mod spots;
+mod points;
+mod refusals;
+mod region_points;
+mod spots;
 mod tables;
 
 pub use book::Book;

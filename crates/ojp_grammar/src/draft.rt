@@ -9,16 +9,11 @@ ghost use Rattle.ojp_grammar.specs.Fronts as fronts;
 use crate::fields::FieldValue;
 use crate::stacks::{Stack, Unbuilt, keep};
 use ojp_tables::names::*;
-use ojp_values::asks::{Ask, EventAsk, MultiAsk, PointsAsk, TripAsk};
-use ojp_values::documents::Doc;
-use ojp_values::kinds::EventKind;
-use ojp_values::lists::List;
-use ojp_values::moments::{Day, Instant};
-use ojp_values::replies::{
-    Delivery, EventsReply, Fault, MultiReply, PointsReply, TripReply, TripResult,
+use ojp_values::{
+    Ask, Code, Day, Delivery, Doc, Event, EventAsk, EventKind, EventsReply, Fault, Instant, Label,
+    Leg, List, MultiAsk, MultiReply, Name, Neighbour, Point, PointsAsk, PointsReply, StopRef, Trip,
+    TripAsk, TripReply, TripResult,
 };
-use ojp_values::texts::{Code, Label, Name, StopRef};
-use ojp_values::trips::{Event, Leg, Neighbour, Point, Trip};
 use std::alloc::Global;
 use std::marker::Model;
 use std::mem;

@@ -6,10 +6,9 @@ ghost use Rattle.ojp_values.specs.declared.kinds.EventKind.{EventKind};
 ghost use Rattle.ojp_grammar.specs.Fields.{Spells, event_text};
 ghost use Rattle.ojp_grammar.specs.declared.fields.FieldValue.{FieldValue};
 
-use ojp_values::kinds::{EventKind, Kind};
-use ojp_values::moments::{Day, Instant};
-use ojp_values::numbers::{read_duration, read_number};
-use ojp_values::texts::{Code, Label, Name, StopRef};
+use ojp_values::{
+    Code, Day, EventKind, Instant, Kind, Label, Name, StopRef, read_duration, read_number,
+};
 
 /// The value of a field, by its kind. Seconds, change times, numbers and counts are plain numbers.
 #[derive(Clone, Copy, Debug, PartialEq, Eq)]

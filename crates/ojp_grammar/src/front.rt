@@ -9,9 +9,7 @@ ghost use Rattle.ojp_grammar.specs.Fronts.{ReadsLeg};
 use memchr::memchr;
 use ojp_tables::runs::*;
 use ojp_tables::take_tag;
-use ojp_values::moments::{Day, Instant};
-use ojp_values::texts::{Code, Label, Name, StopRef};
-use ojp_values::trips::Leg;
+use ojp_values::{Code, Day, Instant, Label, Leg, Name, StopRef};
 use std::marker::Model;
 
 /// The bytes that are left to read.

@@ -19,9 +19,7 @@ use arrayvec::ArrayVec;
 use memchr::memchr;
 use ojp_tables::markup::markup;
 use ojp_tables::names::{END, HEAD, TRIP, TRIP_LEG};
-use ojp_values::documents::Doc;
-use ojp_values::kinds::Kind;
-use ojp_values::memory::NoMemory;
+use ojp_values::{Doc, Kind, NoMemory};
 use std::alloc::Global;
 
 /// What stands in front of bytes: a text by its number, a field by its length and its value, or why no

@@ -4,7 +4,7 @@ ghost use Rattle.std.specs.Prelude.{◌≡◌};
 ghost use Rattle.ojp_grammar.specs.Reasons.{document_words, field_words};
 
 use crate::refusals::Reason;
-use ojp_values::kinds::Kind;
+use ojp_values::Kind;
 
 impl Reason {
     /// Why a document is refused.

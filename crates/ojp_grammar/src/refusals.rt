@@ -1,6 +1,6 @@
 //! Why bytes are no document.
 
-use ojp_values::kinds::Kind;
+use ojp_values::Kind;
 use thiserror::Error;
 
 /// Which documents are meant.

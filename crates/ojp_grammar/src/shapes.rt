@@ -5,7 +5,7 @@ ghost use Rattle.ojp_grammar.specs.Steps.{syntax_of};
 ghost use Rattle.ojp_grammar.specs.Grammar as grammar;
 
 use ojp_tables::names::*;
-use ojp_values::kinds::Kind;
+use ojp_values::Kind;
 
 /// A shape of items. Texts are named by their numbers.
 #[derive(Clone, Copy)]

@@ -4,7 +4,7 @@
 ghost use Rattle.std.specs.Prelude.{◌≡◌, ◌∷◌, ◌++◌, [], MatchOption, MatchResult};
 ghost use Rattle.ojp_grammar.specs.declared.stacks.Unbuilt.TheVariants.{Mismatch, NoMemory};
 
-use ojp_values::lists::List;
+use ojp_values::List;
 use std::alloc::Global;
 use std::marker::Model;
 

@@ -7,7 +7,7 @@ ghost use Rattle.ojp_grammar.specs.Whole.{IsWholeRefused, IsWhyNot};
 
 use crate::machine::{Machine, Ran};
 use crate::refusals::{Reason, Refused, Want, WholeRefused};
-use ojp_values::documents::Doc;
+use ojp_values::Doc;
 use std::alloc::Global;
 
 /// The document that the bytes spell, or where they are refused and why.

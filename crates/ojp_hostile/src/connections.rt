@@ -7,7 +7,7 @@ use ojp_links::Runtime;
 use ojp_outside::{MemSink, MemSource};
 use ojp_region::serve_one;
 use ojp_scan::Scan;
-use ojp_timetable::table::Timetable;
+use ojp_timetable::Timetable;
 use std::alloc::Global;
 use std::str;
 

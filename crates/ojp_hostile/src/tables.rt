@@ -6,7 +6,7 @@ ghost use Rattle.ojp_values.specs.Texts.{same};
 ghost use Rattle.ojp_links.specs.Seen.{AreDistinct, region_of_table};
 ghost use Rattle.ojp_hostile.specs.Ready.{AreOfRegions};
 
-use ojp_timetable::table::Timetable;
+use ojp_timetable::Timetable;
 use ojp_values::Code;
 use std::alloc::Global;
 

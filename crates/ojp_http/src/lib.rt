@@ -4,12 +4,12 @@
 
 mod answer;
 mod ask;
-pub mod fed;
+mod fed;
 mod fields;
 mod head;
 pub mod laws;
 mod machine;
-pub mod refusal;
+mod refusal;
 mod reply;
 mod scan;
 mod served;

@@ -6,8 +6,7 @@ ghost use Rattle.ojp_labels.specs.Labels.{open_start, lowered, lowered_by, marke
 
 use ojp_exchange::{Edge, Spot};
 use ojp_records::Query;
-use ojp_values::moments::LAST_SECOND;
-use ojp_values::{Instant, TripAsk};
+use ojp_values::{Instant, LAST_SECOND, TripAsk};
 
 /// The requested day: arrivals more than so many seconds after the asked start are ignored.
 pub const DAY_LONG: u64 = 86_400;

@@ -2,7 +2,7 @@
 //! ends.
 #![tactic(auto)]
 
-pub mod board;
+mod board;
 mod comparing;
 mod faults;
 mod hearing;

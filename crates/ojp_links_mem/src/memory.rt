@@ -14,7 +14,7 @@ use crate::script::{Script, What, said_by};
 use crate::server::{Server, asked, servers_of};
 use crate::sorting::sort_tables;
 use ojp_links::{AskRefused, Expect, Links, More, PacedLinks, Runtime, Sub, WaitLinks};
-use ojp_timetable::table::Timetable;
+use ojp_timetable::Timetable;
 use ojp_values::{Code, NoMemory};
 use slab::Slab;
 use std::alloc::Global;

@@ -15,7 +15,7 @@ use ojp_http::Served;
 use ojp_outside::{MemSink, MemSource};
 use ojp_region::serve_one;
 use ojp_scan::Scan;
-use ojp_timetable::table::Timetable;
+use ojp_timetable::Timetable;
 use ojp_values::{Code, NoMemory};
 use std::alloc::Global;
 use std::marker::Model;

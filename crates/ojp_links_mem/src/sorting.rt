@@ -6,7 +6,7 @@ ghost use Rattle.ojp_values.specs.Texts.{text_lt};
 ghost use Rattle.ojp_links.specs.Seen.{AreDistinct, region_of_table};
 ghost use Rattle.ojp_links_mem.specs.Memory.{AreRising};
 
-use ojp_timetable::table::Timetable;
+use ojp_timetable::Timetable;
 use std::cmp::Ordering;
 
 /// Puts the timetables into rising order of their codes.

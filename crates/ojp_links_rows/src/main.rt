@@ -12,7 +12,7 @@ ghost use Rattle.ojp_links.specs.Seen.{AreDistinct, region_of_table};
 use crate::asking::{End, ask_first, with_region};
 use ojp_links_mem::{MemLinks, Script, What};
 use ojp_outside::{StdSource, read_all};
-use ojp_timetable::table::Timetable;
+use ojp_timetable::Timetable;
 use std::alloc::Global;
 use std::process::ExitCode;
 use std::str;

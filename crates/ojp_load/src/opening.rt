@@ -12,7 +12,7 @@ use ojp_exchange::Book;
 use ojp_gateway::{LearnRefused, learn_paced};
 use ojp_links::Links;
 use ojp_links_mem::MemLinks;
-use ojp_timetable::table::Timetable;
+use ojp_timetable::Timetable;
 use ojp_values::NoMemory;
 use std::alloc::Global;
 

@@ -5,8 +5,7 @@ ghost use Rattle.ojp_values.specs.Lists.{Each, Pairwise};
 ghost use Rattle.ojp_timetable.specs.TableText.{IsText};
 ghost use Rattle.ojp_load.specs.Ready.{IsAccepted};
 
-use ojp_timetable::refusals::TableRefused;
-use ojp_timetable::table::Timetable;
+use ojp_timetable::{TableRefused, Timetable};
 use ojp_values::{List, NoMemory};
 use std::alloc::Global;
 

@@ -7,7 +7,7 @@ use crate::connections::connections_of;
 use ojp_cli::run_net;
 use ojp_links_mem::MemLinks;
 use ojp_outside::{MemDoors, MemSink, MemSource, MemStore};
-use ojp_timetable::table::Timetable;
+use ojp_timetable::Timetable;
 use ojp_values::read_number;
 use std::alloc::Global;
 use std::net::Net;

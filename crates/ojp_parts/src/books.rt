@@ -6,7 +6,7 @@ ghost use Rattle.ojp_exchange.specs.Joins.{AreWellLists};
 
 use crate::texts::bytes_of;
 use ojp_exchange::{Book, BookRefused, RegionPoints, points_of};
-use ojp_timetable::table::Timetable;
+use ojp_timetable::Timetable;
 use ojp_values::{Code, StopRef};
 use std::alloc::Global;
 use std::str;

@@ -3,8 +3,8 @@
 
 pub mod examples;
 pub mod laws;
-pub mod places;
-pub mod queries;
+mod places;
+mod queries;
 
 pub use places::PlaceState;
 pub use queries::{Entry, Query, same_query};

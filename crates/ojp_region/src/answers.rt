@@ -11,7 +11,7 @@ use crate::trips::{multi_answer, trip_answer};
 use ojp_exchange::points_of;
 use ojp_scan::Scan;
 use ojp_stop_events::events;
-use ojp_timetable::table::Timetable;
+use ojp_timetable::Timetable;
 use ojp_values::{
     Ask, Delivery, EventAsk, EventsReply, Fault, List, NoMemory, Point, PointsAsk, PointsReply,
     StopRef,

@@ -20,7 +20,7 @@ use ojp_grammar::refusals::{Refused, Want, WholeRefused};
 use ojp_grammar::whole::whole;
 use ojp_outside::{MemSink, WriteFault, put_parts};
 use ojp_scan::Scan;
-use ojp_timetable::table::Timetable;
+use ojp_timetable::Timetable;
 use ojp_values::{Ask, Delivery, Doc, NoMemory};
 use std::alloc::Global;
 

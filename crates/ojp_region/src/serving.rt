@@ -13,7 +13,7 @@ use crate::bodies::answer_body;
 use ojp_http::{HttpRefusal, Served, give_up, read_request, refuse, respond};
 use ojp_outside::{Sink, Source};
 use ojp_scan::Scan;
-use ojp_timetable::table::Timetable;
+use ojp_timetable::Timetable;
 use ojp_values::NoMemory;
 use std::alloc::Global;
 

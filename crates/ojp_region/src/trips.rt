@@ -11,7 +11,7 @@ ghost use Rattle.ojp_scan.specs.Trips.{IsStarted};
 
 use ojp_scan::Scan;
 use ojp_scan::answers::earliest_trip;
-use ojp_timetable::table::Timetable;
+use ojp_timetable::Timetable;
 use ojp_values::{
     Delivery, Fault, List, MultiAsk, MultiReply, NoMemory, StopRef, TripAsk, TripReply, TripResult,
 };

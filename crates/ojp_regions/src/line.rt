@@ -7,8 +7,7 @@ ghost use Rattle.ojp_regions.specs.declared.line.RegionLine.{RegionLine as Regio
 
 use crate::host::{Host, is_host};
 use crate::port::read_port;
-use ojp_timetable::lines::TableReason;
-use ojp_timetable::refusals::LineRefused;
+use ojp_timetable::{LineRefused, TableReason};
 use ojp_values::{Code, NoMemory};
 use ojp_zones::parts::Split;
 use ojp_zones::splits::split;

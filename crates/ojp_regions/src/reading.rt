@@ -9,8 +9,7 @@ ghost use Rattle.ojp_regions.specs.RegionsText.{IsRefusal, IsText, refusal_of};
 
 use crate::line::{RegionLine, read_line};
 use memchr::memchr;
-use ojp_timetable::lines::TableReason;
-use ojp_timetable::refusals::LineRefused;
+use ojp_timetable::{LineRefused, TableReason};
 use ojp_values::{Code, List};
 use std::alloc::Global;
 

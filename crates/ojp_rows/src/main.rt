@@ -10,7 +10,7 @@ use ojp_http::{Served, request};
 use ojp_outside::{MemSink, MemSource, StdSource, read_all};
 use ojp_region::serve_one;
 use ojp_scan::Scan;
-use ojp_timetable::table::Timetable;
+use ojp_timetable::Timetable;
 use ojp_values::read_number;
 use std::alloc::Global;
 use std::process::ExitCode;

@@ -1,6 +1,6 @@
 //! The questions to a timetable, with answers worked out by hand.
 
-use ojp_timetable::table::Timetable;
+use ojp_timetable::Timetable;
 use ojp_values::{Day, StopRef};
 use std::alloc::Global;
 

@@ -8,7 +8,7 @@ ghost use Rattle.ojp_scan.specs.Scans.{IsMadeFor, IsScanOf};
 ghost use Rattle.ojp_scan.specs.Trips.{IsStarted, IsWithinDay};
 
 use crate::scans::Scan;
-use ojp_timetable::table::Timetable;
+use ojp_timetable::Timetable;
 use ojp_values::{
     Delivery, Fault, Instant, Leg, List, NoMemory, StopRef, Trip, TripAsk, TripReply, TripResult,
 };

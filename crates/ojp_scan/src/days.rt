@@ -5,7 +5,7 @@ ghost use Rattle.ojp_timetable.specs.Runs.{RunsOn, IsWell};
 ghost use Rattle.ojp_scan.specs.Days.{CoverWindow, IsBase, AreBases, AreMarks, HasRoomFor, AreDaysFrom};
 
 use ojp_sweep::Days;
-use ojp_timetable::table::Timetable;
+use ojp_timetable::Timetable;
 use ojp_values::{Day, NoMemory};
 use std::alloc::Global;
 

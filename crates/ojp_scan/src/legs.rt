@@ -6,7 +6,7 @@ ghost use Rattle.ojp_scan.specs.Walks.{AreEnds, leg_between};
 
 use crate::views::{call_at, journey_at};
 use ojp_sweep::Connection;
-use ojp_timetable::table::Timetable;
+use ojp_timetable::Timetable;
 use ojp_values::{Day, Leg};
 
 /// The last leg of a journey, and the number of the place where it is boarded.

@@ -9,7 +9,7 @@ use crate::rows::rows_of;
 use crate::views::{journey_at, place_of};
 use indexmap::IndexMap;
 use ojp_sweep::Connections;
-use ojp_timetable::table::Timetable;
+use ojp_timetable::Timetable;
 use ojp_values::{NoMemory, StopRef};
 use std::alloc::Global;
 

@@ -18,7 +18,7 @@ use crate::legs::{LastLeg, leg_of};
 use crate::networks::{network_of, numbers_of};
 use indexmap::IndexMap;
 use ojp_sweep::{Asked, Connection, Days, Sweep};
-use ojp_timetable::table::Timetable;
+use ojp_timetable::Timetable;
 use ojp_values::{Instant, Leg, List, NoMemory, StopRef};
 use std::alloc::Global;
 

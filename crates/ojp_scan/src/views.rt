@@ -5,9 +5,7 @@ ghost use Rattle.ojp_timetable.specs.Runs.{IsWell};
 ghost use Rattle.ojp_scan.specs.Networks.{place_number};
 ghost use Rattle.ojp_scan.specs.Views.{IsJourneyAt, IsInJourney, AreCallsOf, IsCallOf, IsPlaceOf};
 
-use ojp_timetable::calls::Call;
-use ojp_timetable::kept::JourneyView;
-use ojp_timetable::table::Timetable;
+use ojp_timetable::{Call, JourneyView, Timetable};
 use ojp_values::StopRef;
 
 /// The journey of that number.

@@ -12,7 +12,7 @@ ghost use Rattle.ojp_steps.specs.Endings.{Concludes};
 use itoa::Buffer;
 use ojp_grammar::refusals::Reason;
 use ojp_outside::{Sink, put_parts};
-use ojp_timetable::lines::TableReason;
+use ojp_timetable::TableReason;
 use ojp_values::{Code, StopRef};
 
 /// Why a command did not come to its end.

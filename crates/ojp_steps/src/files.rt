@@ -6,9 +6,7 @@ ghost use Rattle.ojp_steps.specs.Files.{ReadsFile, IsOfFile};
 
 use crate::failures::Failure;
 use ojp_outside::{Store, StoreRefused};
-use ojp_timetable::lines::TableReason;
-use ojp_timetable::refusals::TableRefused;
-use ojp_timetable::table::Timetable;
+use ojp_timetable::{TableReason, TableRefused, Timetable};
 use std::alloc::Global;
 
 /// Why a file gives no timetable.

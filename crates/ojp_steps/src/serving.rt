@@ -10,7 +10,7 @@ ghost use Rattle.ojp_steps.specs.Serving.{seen_as, ServesAt, ServesNext, ServesU
 use ojp_outside::{DoorRefused, Doors, Sink, WriteFault, put_all};
 use ojp_region::serve_one;
 use ojp_scan::Scan;
-use ojp_timetable::table::Timetable;
+use ojp_timetable::Timetable;
 use ojp_values::NoMemory;
 use std::alloc::Global;
 use std::sync::Wait;

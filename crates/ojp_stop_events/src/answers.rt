@@ -6,7 +6,7 @@ ghost use Rattle.ojp_timetable.specs.Runs.{IsWell};
 ghost use Rattle.ojp_stop_events.specs.Found.{AreFirst, IsCalled, with_event};
 
 use crate::calls::{DAY_LONG, event_on, is_at_stop};
-use ojp_timetable::table::Timetable;
+use ojp_timetable::Timetable;
 use ojp_values::{Day, Event, EventAsk, List, NoMemory};
 use std::alloc::Global;
 

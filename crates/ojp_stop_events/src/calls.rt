@@ -5,8 +5,7 @@ ghost use Rattle.ojp_timetable.specs.Answers.{offset_of};
 ghost use Rattle.ojp_timetable.specs.Runs.{IsWell, day_long};
 ghost use Rattle.ojp_stop_events.specs.Found.{HasNoEvent, IsCalled, IsEventOf};
 
-use ojp_timetable::calls::Call;
-use ojp_timetable::table::Timetable;
+use ojp_timetable::{Call, Timetable};
 use ojp_values::{Day, Event, EventAsk, EventKind, Instant};
 
 /// The asked day: an event is at most so many seconds after the asked start.

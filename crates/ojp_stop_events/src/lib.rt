@@ -1,7 +1,7 @@
 //! Stop events of a region: the departures from a stop, or the arrivals there, by their order.
 #![tactic(auto)]
 
-pub mod answers;
+mod answers;
 mod calls;
 
 pub use answers::events;

@@ -2,25 +2,25 @@
 #![tactic(auto)]
 
 pub mod above;
-pub mod calls;
+mod calls;
 mod checks;
 pub mod draft;
 mod fields;
-pub mod kept;
+mod kept;
 pub mod laws;
-pub mod lines;
+mod lines;
 mod point_lists;
 mod read_words;
 pub mod reading;
 mod reason_words;
-pub mod refusals;
+mod refusals;
 mod rides;
 mod said;
-pub mod table;
+mod table;
 pub mod words;
 
 pub use calls::Call;
 pub use kept::{JourneyView, PlaceView};
 pub use lines::TableReason;
-pub use refusals::TableRefused;
+pub use refusals::{LineRefused, TableRefused};
 pub use table::Timetable;

@@ -1,9 +1,9 @@
 //! The trace of a search: a line for each event, and the trace that a search has where its replies come in a stated order.
 #![tactic(auto)]
 
-pub mod events;
+mod events;
 pub mod examples;
-pub mod trace;
+mod trace;
 
 pub use events::Event;
 pub use trace::Trace;

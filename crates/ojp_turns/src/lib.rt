@@ -5,7 +5,7 @@ pub mod asking;
 mod cancelling;
 pub mod kept;
 mod polling;
-pub mod search;
+mod search;
 mod tracing;
 
 pub use search::{Outcome, Search, Turn};

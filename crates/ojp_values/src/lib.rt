@@ -4,27 +4,27 @@
 //! an operating day as a number, a list as its items. Asks, trips, replies and documents are plain data.
 #![tactic(auto)]
 
-pub mod asks;
+mod asks;
 pub mod dates;
-pub mod documents;
+mod documents;
 pub mod fields;
 mod fixed;
-pub mod kinds;
-pub mod lists;
-pub mod memory;
-pub mod moments;
+mod kinds;
+mod lists;
+mod memory;
+mod moments;
 pub mod names;
-pub mod numbers;
-pub mod replies;
-pub mod texts;
-pub mod trips;
+mod numbers;
+mod replies;
+mod texts;
+mod trips;
 
 pub use asks::{Ask, EventAsk, MultiAsk, PointsAsk, TripAsk};
 pub use documents::Doc;
 pub use kinds::{BadText, EventKind, Kind};
 pub use lists::List;
 pub use memory::NoMemory;
-pub use moments::{Day, Instant};
+pub use moments::{Day, FIRST_DAY, Instant, LAST_DAY, LAST_SECOND};
 pub use numbers::{read_duration, read_number};
 pub use replies::{Delivery, EventsReply, Fault, MultiReply, PointsReply, TripReply, TripResult};
 pub use texts::{Code, Label, Name, StopRef};

@@ -7,7 +7,7 @@ ghost use Rattle.ojp_zones.specs.Noons.{AreAllYears, AreNear, AreNoons, HoldsDay
 use crate::calendar::{change_day, month_start};
 use crate::year::{Season, Year};
 use crate::zone::Zone;
-use ojp_values::moments::{FIRST_DAY, LAST_DAY};
+use ojp_values::{FIRST_DAY, LAST_DAY};
 use std::alloc::{AllocError, Global};
 use std::marker::Model;
 
