@@ -3,13 +3,10 @@
 # The regions and requests are those of examples/network. Told are the requests a second as the client has them, one after another,
 # and the middle of their times; then the same with one region behind a forwarder that holds back each of its replies for 50 ms:
 # asks of one round overlap, so a trip takes longer by its rounds through that region and not by its asks.
-top=$(cd "$(dirname "$0")/.." && pwd)
-ojp=$top/crates/ojp/out/ojp
+. "$(dirname "$0")/program.sh"
 requests=${1:-300}
 port=${PORT:-48300}
-[ -x "$ojp" ] || { echo "build the program first: ./ojp check < examples/plan/request.xml" >&2; exit 1; }
-folder=$(mktemp -d)
-trap 'kill $(jobs -p) 2>/dev/null; rm -rf "$folder"' EXIT
+ojp=$program
 . "$top/examples/network/start.sh"
 
 # Forwards each connection to PORT, the first byte of its reply held back for 50 ms.

@@ -2,13 +2,9 @@
 # Measures a region over loopback, with curl as its client: bench/serve.sh [REQUESTS]
 # Each kind of request is sent so often, one connection after another; told are the requests a second as the client has them,
 # and the processor time of the server for one. The timetable is of the largest size that is allowed.
-top=$(cd "$(dirname "$0")/.." && pwd)
-program=$top/crates/ojp/out/ojp
+. "$(dirname "$0")/program.sh"
 requests=${1:-1000}
 port=${PORT:-47655}
-[ -x "$program" ] || { echo "build the program first: ./ojp check < examples/plan/request.xml" >&2; exit 1; }
-folder=$(mktemp -d)
-trap 'rm -rf "$folder"' EXIT
 python3 "$top/bench/largest.py" "$folder" || exit 1
 
 # The processor time of a server of FILE for COUNT requests of DOCUMENT, in microseconds; the client's time goes to `elapsed`.
