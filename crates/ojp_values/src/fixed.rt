@@ -17,8 +17,8 @@ use std::marker::Model;
 /// At most `N` bytes, compared and hashed as a text.
 #[derive(Clone, Copy, Debug)]
 pub struct Fixed<const N: usize> {
-    bytes: [u8; N],
     len: usize,
+    bytes: [u8; N],
 }
 
 impl<const N: usize> Model for Fixed<N> {
@@ -49,8 +49,8 @@ impl<const N: usize> Fixed<N> {
         let mut bytes = [0; N];
         bytes[..text.len()].copy_from_slice(text);
         Fixed {
-            bytes,
             len: text.len(),
+            bytes,
         }
     }
 
