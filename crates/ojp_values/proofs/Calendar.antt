@@ -10,8 +10,9 @@ use Rattle.jiff_core.specs.declared.civil.date.Date.{Date}
 use Rattle.jiff_core.proofs.DateLemmas.{civil, epoch_day_injective}
 use Rattle.jiff_core.specs.Date.{epoch_day, IsYmd}
 use Rattle.ojp_values.specs.declared.dates.CalendarDate.{CalendarDate}
+use Rattle.ojp_values.specs.declared.moments.TheConstants.{FIRST_DAY, LAST_DAY}
 use Rattle.ojp_values.specs.Numbers.{Reads}
-use Rattle.ojp_values.specs.Dates.{Place, year_place, month_place, date_in_year, date_of, IsDate, IsDayNumber, IsWritable, two, four, date_text, day_text, DaysHaveDates, DatesHaveDays}
+use Rattle.ojp_values.specs.Dates.{DayWithin, year_place, month_place, date_in_year, date_of, IsDate, IsDayNumber, IsWritable, two, four, date_text, day_text, DaysHaveDates, DatesHaveDays}
 
 -- the year 2200 begins 84,006 days after 1970
 day_count-end : day_count (pos 2200) 1 1 ≡ 4_455_959
@@ -21,7 +22,7 @@ next_year : (y : ℕ) → day_count (pos (y + 1)) 1 1 ≡ day_count (pos y) 1 1 
 next_year y = day_count-next_year (pos y) (pos (y + 1)) (omega (arith, signed_arith)) (omega (arith, signed_arith))
 
 -- p is a year from `first` on and before `last`, and a day of it, n days after the first year's first day
-record IsYearPlace (first last n : ℕ) (p : Place) : Type 0 where
+record IsYearPlace (first last n : ℕ) (p : DayWithin) : Type 0 where
   same : day_count (pos p.unit) 1 1 + p.rest ≡ day_count (pos first) 1 1 + n
   within : p.rest < days_in_year (pos p.unit)
   from : first ≤ p.unit
@@ -46,7 +47,7 @@ year_place_is (suc k) y last n e h =
     })
 
 -- p is a month of the year, and a day of it, n days after the first day of the month `first`
-record IsMonthPlace (y first n : ℕ) (p : Place) : Type 0 where
+record IsMonthPlace (y first n : ℕ) (p : DayWithin) : Type 0 where
   same : days_of_months (pos y) (p.unit - 1) + p.rest ≡ days_of_months (pos y) (first - 1) + n
   within : p.rest < days_in_month (pos y) p.unit
   from : first ≤ p.unit
@@ -74,7 +75,7 @@ month_place_is (suc k) y m n low e h =
     })
 
 -- the place of a day in its year is a date, with its day number
-date_in_year_is : (n : ℕ) (p : Place) → IsYearPlace 1970 2200 n p → IsDate (date_in_year p) × IsDayNumber n (date_in_year p)
+date_in_year_is : (n : ℕ) (p : DayWithin) → IsYearPlace 1970 2200 n p → IsDate (date_in_year p) × IsDayNumber n (date_in_year p)
 unfolding date_in_year
 date_in_year_is n p year =
     let place = month_place 12 p.unit 1 p.rest in
@@ -237,8 +238,8 @@ read_day_by text date None spelled fails =
     λ n small spelling. fails (subst IsDate (date_text_injective (date_of n) date (spelling ∙ sym spelled)) (days_have_dates n small).0)
 
 -- the text of a day out of the range of operating days is no operating day's
-pub no_other_day : (text : List ℕ) (n : ℕ) → n ≤ 84_005 → day_text n ≡ text → ((2 ≤ n) × (n ≤ 84_002) → ⊥)
-    → (v : ℕ) → (2 ≤ v) × (v ≤ 84_002) → day_text v ≡ text → ⊥
+pub no_other_day : (text : List ℕ) (n : ℕ) → n ≤ 84_005 → day_text n ≡ text → ((FIRST_DAY ≤ n) × (n ≤ LAST_DAY) → ⊥)
+    → (v : ℕ) → (FIRST_DAY ≤ v) × (v ≤ LAST_DAY) → day_text v ≡ text → ⊥
 no_other_day text n small spelled out v in_range spelling =
     let same = day_text_injective v n (omega (arith, in_range.1)) small (spelling ∙ sym spelled) in
     out (omega (arith, same, in_range.0), omega (arith, same, in_range.1))

@@ -12,6 +12,7 @@ use Rattle.std.proofs.lemmas.List.Sums.{AllPass-from_list_all}
 use Rattle.std.proofs.lemmas.Fmt.{decimal_is_IsNumeral, decimal_nonempty, decimal_injective, length-decimal-le}
 use Rattle.ojp_values.specs.Texts.{is_code, is_label, is_stop_ref, is_name, is_code_byte, is_local_byte, is_colon, is_x, is_tail, is_between, escaped, escaped_byte}
 use Rattle.ojp_values.specs.declared.dates.CalendarDate.{CalendarDate}
+use Rattle.ojp_values.specs.declared.moments.TheConstants.{LAST_SECOND}
 use Rattle.ojp_values.specs.FieldTexts.{IsFieldText}
 use Rattle.ojp_values.specs.Numbers.{duration_text}
 use Rattle.ojp_values.specs.Dates.{IsWritable, two, date_text, date_of, day_text, clock_text, moment_text}
@@ -169,7 +170,7 @@ pub day_is_text : (n : ℕ) → n ≤ 84_005 → IsFieldText (day_text n)
 day_is_text n small =
     record { some = lit≤ tt; short = lit≤ tt; bare = bare_date (date_of n) [] (written n small) bare_nil }
 
-pub moment_is_text : (n : ℕ) → n ≤ 7_258_118_399 → IsFieldText (moment_text n)
+pub moment_is_text : (n : ℕ) → n ≤ LAST_SECOND → IsFieldText (moment_text n)
 moment_is_text n small =
     record {
       some = lit≤ tt;
@@ -180,7 +181,7 @@ moment_is_text n small =
 
 -- ---- one value
 
-pub moment_text_injective : (m n : ℕ) → m ≤ 7_258_118_399 → n ≤ 7_258_118_399 → moment_text m ≡ moment_text n → m ≡ n
+pub moment_text_injective : (m n : ℕ) → m ≤ LAST_SECOND → n ≤ LAST_SECOND → moment_text m ≡ moment_text n → m ≡ n
 moment_text_injective m n small less e =
     let day = day_text_injective (m / 86_400) (n / 86_400) (omega (arith, small)) (omega (arith, less)) (ap (take 10) e) in
     let clock : clock_text (m % 86_400) ≡ clock_text (n % 86_400) = ap (drop 10) e in

@@ -1,29 +1,30 @@
 -- Dates and moments, and their texts.
 use Rattle.std.specs.Prelude.{◌≡◌, ℕ, zero, suc, ◌+◌, ◌-◌, ◌/◌, ◌%◌, ◌<◌, ◌≤◌, nat_lt, if◌then◌else◌, List, [], ◌∷◌, ◌++◌, pos}
 use Rattle.ojp_values.specs.declared.dates.CalendarDate.{CalendarDate}
+use Rattle.ojp_values.specs.declared.moments.TheConstants.{FIRST_DAY, LAST_DAY}
 use Rattle.jiff_core.specs.Calendar.{IsCivilDate, day_count, days_in_year, days_in_month}
 
--- a year or a month, and the days from its first day on
-pub record Place : Type 0 where
+-- a day within a year or a month: the days from its first day on
+pub record DayWithin : Type 0 where
   pub unit : ℕ
   pub rest : ℕ
 
 -- whole years, from the year y on, are taken off n days
-unfoldable pub year_place : ℕ → ℕ → ℕ → Place
+unfoldable pub year_place : ℕ → ℕ → ℕ → DayWithin
 year_place zero y n = record { unit = y; rest = n }
 year_place (suc k) y n =
     if nat_lt n (days_in_year (pos y)) then record { unit = y; rest = n }
     else year_place k (y + 1) (n - days_in_year (pos y))
 
 -- whole months of the year y, from the month m on, are taken off n days
-unfoldable pub month_place : ℕ → ℕ → ℕ → ℕ → Place
+unfoldable pub month_place : ℕ → ℕ → ℕ → ℕ → DayWithin
 month_place zero y m n = record { unit = m; rest = n }
 month_place (suc k) y m n =
     if nat_lt n (days_in_month (pos y) m) then record { unit = m; rest = n }
     else month_place k y (m + 1) (n - days_in_month (pos y) m)
 
 -- the date in a year, from the days since its 1 January
-unfoldable pub date_in_year : Place → CalendarDate
+unfoldable pub date_in_year : DayWithin → CalendarDate
 date_in_year p =
     let place = month_place 12 p.unit 1 p.rest in record { year = p.unit; month = place.unit; day = place.rest + 1 }
 
@@ -78,3 +79,7 @@ DaysHaveDates = (n : ℕ) → n ≤ 84_005 → IsDate (date_of n) × IsDayNumber
 -- the dates of the calendar from 1970 to 2199 have such day numbers
 abbrev pub DatesHaveDays : Type 0
 DatesHaveDays = (date : CalendarDate) → IsDate date → (n : ℕ) × (n ≤ 84_005) × (date_of n ≡ date)
+
+-- so many days are operating days
+abbrev pub operating_days : ℕ
+operating_days = LAST_DAY - FIRST_DAY + 1

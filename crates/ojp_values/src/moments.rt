@@ -25,12 +25,13 @@ pub struct Instant {
 
 impl Model for Instant {
     ghost use Rattle.std.specs.Prelude.{ℕ, ◌≤◌};
+    ghost use Rattle.ojp_values.specs.declared.moments.TheConstants.{LAST_SECOND};
 
     ghost Value = { ℕ };
 
     ghost view = { λ instant. instant.seconds };
 
-    ghost invariant = { λ instant. instant.seconds ≤ 7_258_118_399 };
+    ghost invariant = { λ instant. instant.seconds ≤ LAST_SECOND };
 
     ghost inverse = { λ n. record { seconds = n } };
 }
@@ -51,7 +52,7 @@ impl Instant {
 
     /// The instant that is written `YYYY-MM-DDThh:mm:ssZ`.
     pub fn read(text: &[u8]) -> Option<Instant>
-        ensures { Reads (λ n. n ≤ 7_258_118_399) moment_text text.now result }
+        ensures { Reads (λ n. n ≤ LAST_SECOND) moment_text text.now result }
     {
         if text.len() != 20 {
             return None;
@@ -67,7 +68,7 @@ impl Instant {
     /// The instant as `YYYY-MM-DDThh:mm:ssZ`.
     pub fn text(self) -> [u8; 20]
         ensures value { result ≡ moment_text self }
-        ensures well { self ≤ 7_258_118_399 }
+        ensures well { self ≤ LAST_SECOND }
     {
         let seconds = self.seconds();
         let date = day_digits((seconds / 86_400) as u32);
@@ -95,12 +96,13 @@ pub struct Day {
 
 impl Model for Day {
     ghost use Rattle.std.specs.Prelude.{ℕ, ◌≤◌};
+    ghost use Rattle.ojp_values.specs.declared.moments.TheConstants.{FIRST_DAY, LAST_DAY};
 
     ghost Value = { ℕ };
 
     ghost view = { λ day. day.number };
 
-    ghost invariant = { λ day. (2 ≤ day.number) × (day.number ≤ 84_002) };
+    ghost invariant = { λ day. (FIRST_DAY ≤ day.number) × (day.number ≤ LAST_DAY) };
 
     ghost inverse = { λ n. record { number = n } };
 }
@@ -121,7 +123,7 @@ impl Day {
 
     /// The day that is written `YYYY-MM-DD`.
     pub fn read(text: &[u8]) -> Option<Day>
-        ensures { Reads (λ n. (2 ≤ n) × (n ≤ 84_002)) day_text text.now result }
+        ensures { Reads (λ n. (FIRST_DAY ≤ n) × (n ≤ LAST_DAY)) day_text text.now result }
     {
         let number = read_day(text)?;
         match Day::new(number) {
@@ -133,8 +135,8 @@ impl Day {
     /// The day as `YYYY-MM-DD`.
     pub fn text(self) -> [u8; 10]
         ensures value { result ≡ day_text self }
-        ensures from { 2 ≤ self }
-        ensures to { self ≤ 84_002 }
+        ensures from { FIRST_DAY ≤ self }
+        ensures to { self ≤ LAST_DAY }
     {
         day_digits(self.number())
     }
