@@ -1,5 +1,5 @@
 pub mod Padding
-pub mod Colons
+pub mod Positions
 pub mod Unicode
 pub mod Numerals
 pub mod Escapes
@@ -8,3 +8,4 @@ pub mod FieldTexts
 pub mod StopParts
 pub mod CharacterBytes
 pub mod ListFacts
+pub mod EachFacts

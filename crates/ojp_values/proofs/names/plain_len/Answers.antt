@@ -1,4 +1,4 @@
-use Rattle.ojp_values.proofs.Colons.{unwrap_or-position, position_or_len-le-length}
+use Rattle.ojp_values.proofs.Positions.{unwrap_or-position, position_or_len-le-length}
 use Rattle.ojp_values.specs.Escapes.{is_escaped_byte}
 use Rattle.ojp_values.proofs.names.plain_len.Goals as goal
 

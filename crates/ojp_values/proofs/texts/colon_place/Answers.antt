@@ -1,4 +1,4 @@
-use Rattle.ojp_values.proofs.Colons.{unwrap_or-position, position_or_len-le-length}
+use Rattle.ojp_values.proofs.Positions.{unwrap_or-position, position_or_len-le-length}
 use Rattle.ojp_values.specs.Texts.{is_colon}
 use Rattle.ojp_values.proofs.texts.colon_place.Goals as goal
 
