@@ -3,8 +3,9 @@ use Rattle.std.proofs.Common.{◌≡◌, inl, inr, ℕ, ◌+◌, ◌-◌, ◌≤
 use Rattle.std.specs.Prelude.{Some, None, pos}
 use Rattle.std.specs.List.{flat_map}
 use Rattle.ojp_values.specs.Lists.{Among}
+use Rattle.ojp_values.specs.Numbers.{number}
 use Rattle.ojp_values.specs.Texts.{Text}
-use Rattle.ojp_zones.specs.Numbers.{is_pair, number}
+use Rattle.ojp_zones.specs.Numbers.{is_pair}
 use Rattle.ojp_zones.specs.Parts.{parts}
 use Rattle.ojp_zones.specs.Zones.{offset_zone, zone_of}
 use Rattle.ojp_zones.specs.declared.zone.Zone.{Zone}

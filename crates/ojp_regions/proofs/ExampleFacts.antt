@@ -1,10 +1,10 @@
 -- What small files say, and where they are refused.
-use Rattle.std.proofs.Common.{◌≡◌, ℕ, false, true≢false, [], ◌∷◌, codes, refl, sym, ◌∙◌, ap, subst, inl, inr, arith, lit<, lit≤}
+use Rattle.std.proofs.Common.{◌≡◌, ℕ, false, true≢false, [], ◌∷◌, codes, refl, sym, ◌∙◌, ap, inl, inr, arith, lit<, lit≤}
 use Rattle.std.specs.Fmt.{decimal}
 use Rattle.std.proofs.lemmas.Fmt.{decimal_injective}
-use Rattle.ojp_values.proofs.Numerals.{decimal_form, decimal_read}
+use Rattle.ojp_values.proofs.Numerals.{decimal_of, plain_of}
 use Rattle.ojp_values.specs.Lists.{Among}
-use Rattle.ojp_values.specs.Numbers.{HasNumberForm}
+use Rattle.ojp_values.specs.Numbers.{is_plain, number}
 use Rattle.ojp_values.specs.Texts.{Text, same}
 use Rattle.ojp_zones.specs.Parts.{parts}
 use Rattle.ojp_timetable.proofs.TextFacts.{differ_is}
@@ -18,13 +18,16 @@ use Rattle.ojp_regions.specs.declared.line.RegionLine.{RegionLine}
 use Rattle.ojp_regions.proofs.RegionFacts.{said_none}
 
 port_9001 : decimal 9001 ≡ codes "9001"
-port_9001 = decimal_read (codes "9001") (inr (lit≤ tt, lit≤ tt)) (lit< tt, (lit< tt, (lit< tt, (lit< tt, (lit< tt, tt))))) (lit< tt)
+unfolding number
+port_9001 = decimal_of (codes "9001") refl (lit< tt)
 
 port_65535 : decimal 65535 ≡ codes "65535"
-port_65535 = decimal_read (codes "65535") (inr (lit≤ tt, lit≤ tt)) (lit< tt, (lit< tt, (lit< tt, (lit< tt, (lit< tt, (lit< tt, tt)))))) (lit< tt)
+unfolding number
+port_65535 = decimal_of (codes "65535") refl (lit< tt)
 
 port_65536 : decimal 65536 ≡ codes "65536"
-port_65536 = decimal_read (codes "65536") (inr (lit≤ tt, lit≤ tt)) (lit< tt, (lit< tt, (lit< tt, (lit< tt, (lit< tt, (lit< tt, tt)))))) (lit< tt)
+unfolding number
+port_65536 = decimal_of (codes "65536") refl (lit< tt)
 
 aa_fields : AreFields (codes "AA") (codes "127.0.0.1") (codes "9001") in_aa
 aa_fields = record { same_code = refl; same_host = refl; same_port = port_9001; well_code = refl; well_host = refl; well_port = (lit≤ tt, lit< tt) }
@@ -78,11 +81,7 @@ past_last port e is =
     omega (arith, same, is.1)
 
 leading_zero : (port : ℕ) → decimal port ≡ codes "09001" → IsPort port → ⊥
-leading_zero port e is = go (subst HasNumberForm e (decimal_form port (omega (arith, is.1))))
-  where
-    go : HasNumberForm (codes "09001") → ⊥
-    go (inl h) = absurd (cc)
-    go (inr h) = omega (arith, h.0)
+leading_zero port e is = true≢false (sym (ap is_plain (sym e) ∙ plain_of port (omega (arith, is.1))))
 
 pub lines_are_exact : LinesAreExact
 unfolding lines_of body parts

@@ -7,10 +7,11 @@ use Rattle.std.proofs.lemmas.Bool.{eqb-true}
 use Rattle.std.proofs.lemmas.Bool.Decides.{nat_tests}
 use Rattle.ojp_values.specs.Dates.{day_text}
 use Rattle.ojp_values.specs.Lists.{Pairwise}
-use Rattle.ojp_values.specs.Numbers.{Reads}
+use Rattle.ojp_values.specs.Numbers.{Reads, number}
 use Rattle.ojp_values.specs.Texts.{Text, is_code, is_exchange, is_label, same}
+use Rattle.ojp_values.specs.declared.moments.TheConstants.{FIRST_DAY, LAST_DAY}
 use Rattle.ojp_values.proofs.Escapes.{and_true_left, and_true_right}
-use Rattle.ojp_zones.specs.Numbers.{is_number, number}
+use Rattle.ojp_zones.specs.Numbers.{is_number}
 use Rattle.ojp_zones.specs.Zones.{zone_of}
 use Rattle.ojp_zones.specs.declared.zone.Zone.{Zone}
 use Rattle.ojp_zones.proofs.NumberFacts.{numbers_are_decimal}
@@ -63,7 +64,7 @@ number_back low high text bound h =
 
 day_back : (text : Text) (day : ℕ) → day_of text ≡ Some day → text ≡ day_text day
 day_back text day e =
-    let read = subst (λ (o : Option ℕ). Reads (λ n. (2 ≤ n) × (n ≤ 84_002)) day_text text o) e (days_are_spelled text) in
+    let read = subst (λ (o : Option ℕ). Reads (λ n. (FIRST_DAY ≤ n) × (n ≤ LAST_DAY)) day_text text o) e (days_are_spelled text) in
     sym read.1
 
 mark_back : (b : ℕ) → is_mark b ≡ true → b ≡ cond (b == 49) 49 48

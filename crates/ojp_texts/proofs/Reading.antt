@@ -5,10 +5,13 @@ use Rattle.std.specs.List.{list_all}
 use Rattle.std.specs.Fmt.{decimal}
 use Rattle.std.proofs.lemmas.Bool.{and_from, eqb-true, le-leb, or_right}
 use Rattle.ojp_values.specs.Dates.{day_text}
+use Rattle.ojp_values.specs.Numbers.{is_plain, number}
+use Rattle.ojp_values.proofs.Numerals.{number_of, plain_of}
 use Rattle.ojp_values.specs.Texts.{Text, is_code, is_exchange, is_label, is_name, is_stop_ref, same}
+use Rattle.ojp_values.specs.declared.moments.TheConstants.{FIRST_DAY, LAST_DAY}
 use Rattle.ojp_values.specs.declared.trips.Neighbour.{Neighbour}
-use Rattle.ojp_zones.specs.Numbers.{is_number, is_plain, number}
-use Rattle.ojp_zones.proofs.NumberFacts.{number_of, numbers_are_decimal, plain_of}
+use Rattle.ojp_zones.specs.Numbers.{is_number}
+use Rattle.ojp_zones.proofs.NumberFacts.{numbers_are_decimal}
 use Rattle.ojp_zones.proofs.PartsFacts.{parts-nonempty}
 use Rattle.ojp_timetable.specs.Fields.{body, fields_of, joined}
 use Rattle.ojp_timetable.specs.Runs.{AreDays, IsOffset}
@@ -128,7 +131,7 @@ neighbour_reads region left stop neighbour closed ref code other from to =
     ∙ (valued_is _ _ (and_from _ _ (and_from _ _ (and_from _ _ ref code) (ap not other)) (decimal_in 1 7200 neighbour.change (omega arith) from to))
     ∙ ap (λ (n : ℕ). Ok (lines.Neighbour stop (record { code = neighbour.code; change = n }))) (number_is neighbour.change (omega (arith, to))))))
 
-pub day_is : (day : ℕ) → 2 ≤ day → day ≤ 84_002 → day_of (day_text day) ≡ Some day
+pub day_is : (day : ℕ) → FIRST_DAY ≤ day → day ≤ LAST_DAY → day_of (day_text day) ≡ Some day
 day_is day from to = one_reading (day_text day) (day_of (day_text day)) (Some day) (days_are_spelled (day_text day)) ((from, to), refl)
 
 marks_pass : (marks : List Bool) → list_all is_mark (marks_text marks) ≡ true

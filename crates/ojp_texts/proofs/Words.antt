@@ -10,7 +10,7 @@ use Rattle.ojp_values.specs.declared.dates.CalendarDate.{CalendarDate}
 use Rattle.ojp_values.specs.Texts.{Text, is_code, is_code_byte, is_label, is_local_byte, is_name, is_name_byte, is_stop_ref, is_between}
 use Rattle.ojp_values.proofs.Escapes.{and_true_left, and_true_right}
 use Rattle.ojp_values.proofs.StopParts.{stops_have_parts}
-use Rattle.ojp_zones.proofs.NumberFacts.{plain_of}
+use Rattle.ojp_values.proofs.Numerals.{plain_of}
 use Rattle.ojp_texts.specs.Spelled.{is_word, is_word_byte, marks_text}
 
 -- every byte passes where a weaker test is asked

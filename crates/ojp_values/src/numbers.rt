@@ -1,22 +1,18 @@
 //! Decimal numbers and durations as texts.
 
-ghost use Rattle.std.specs.Prelude.{◌≡◌, ◌<◌, ◌^◌, ◌↔◌, IsTrue, decimal};
-ghost use Rattle.ojp_values.specs.Numbers.{Reads, duration_text, HasNumberForm};
+ghost use Rattle.std.specs.Prelude.{◌≡◌, ◌≤◌, ◌<◌, ◌^◌, MatchOption, decimal};
+ghost use Rattle.std.specs.List.{list_all};
+ghost use Rattle.std.specs.Char.{is_ascii_digit};
+ghost use Rattle.ojp_values.specs.Numbers.{Reads, are_digits, duration_text, is_plain, number};
 
 /// The number below 2^32 that the text spells: decimal, without leading zeros; zero is `0`.
 pub fn read_number(text: &[u8]) -> Option<u32>
     ensures { Reads (λ n. n < 2 ^ 32) decimal text.now result }
 {
-    if !is_number_form(text) {
+    if !is_plain(text) {
         return None;
     }
-    match str::from_utf8(text) {
-        Ok(digits) => match digits.parse::<u32>() {
-            Ok(number) => Some(number),
-            Err(_) => None,
-        },
-        Err(_) => None,
-    }
+    read_digits(text, u32::MAX)
 }
 
 /// The seconds, below 2^32, of a duration that is spelled `PTnS`.
@@ -29,13 +25,40 @@ pub fn read_duration(text: &[u8]) -> Option<u32>
     }
 }
 
-/// Whether the text is `0` or begins with another digit.
-fn is_number_form(text: &[u8]) -> bool
-    ensures { IsTrue result ↔ HasNumberForm text.now }
+/// The number that the bytes write as digits, if it is at most `most`.
+pub fn read_digits(text: &[u8], most: u32) -> Option<u32>
+    ensures { MatchOption result (most < number text.now) (λ n. (n ≡ number text.now) × (n ≤ most)) }
 {
-    match text {
-        [b'0'] => true,
-        [first, ..] => b'1' <= *first && *first <= b'9',
-        [] => false,
+    let most = u64::from(most);
+    let mut sum: u64 = 0;
+    for digit in text {
+        sum = 10 * sum + u64::from(digit.saturating_sub(b'0'));
+        if sum > most {
+            return None;
+        }
     }
+    Some(sum as u32)
+}
+
+fn all_digits(text: &[u8]) -> bool
+    ensures { result ≡ list_all is_ascii_digit text.now }
+{
+    text.iter().all(|b| b.is_ascii_digit())
+}
+
+/// Whether the text is one digit or more.
+pub fn are_digits(text: &[u8]) -> bool
+    ensures { result ≡ are_digits text.now }
+{
+    if text.is_empty() {
+        return false;
+    }
+    all_digits(text)
+}
+
+/// Whether the text is digits, of which the first of several is not 0.
+pub fn is_plain(text: &[u8]) -> bool
+    ensures { result ≡ is_plain text.now }
+{
+    are_digits(text) && (text.len() == 1 || text[0] != b'0')
 }

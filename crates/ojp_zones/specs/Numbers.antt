@@ -1,23 +1,7 @@
--- Numbers in decimal.
-use Rattle.std.specs.Prelude.{ℕ, ◌+◌, ◌-◌, ◌*◌, Bool, ◌&&◌, ◌||◌, ◌==◌, not, length, nat_le, slice_index, fold, cond, Option, Some, None}
-use Rattle.std.specs.List.{list_all}
-use Rattle.std.specs.Char.{is_ascii_digit}
+-- Numbers in decimal, within bounds.
+use Rattle.std.specs.Prelude.{ℕ, Bool, ◌&&◌, ◌==◌, length, nat_le, cond, Option, Some, None}
 use Rattle.ojp_zones.specs.Parts.{Text}
-
--- the number with one more digit
-abbrev pub with_digit : ℕ → ℕ → ℕ
-with_digit number digit = 10 * number + (digit - 48)
-
--- the number that the digits write
-unfoldable pub number : Text → ℕ
-number text = fold with_digit 0 text
-
-abbrev pub are_digits : Text → Bool
-are_digits text = not (length text == 0) && list_all is_ascii_digit text
-
--- digits, of which the first of several is not 0
-abbrev pub is_plain : Text → Bool
-is_plain text = are_digits text && (length text == 1 || not (slice_index text 0 == 48))
+pub use Rattle.ojp_values.specs.Numbers.{are_digits, is_plain, number}
 
 -- a number from low to high, without leading zeros
 unfoldable pub is_number : ℕ → ℕ → Text → Bool

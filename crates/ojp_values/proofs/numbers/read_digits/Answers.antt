@@ -1,8 +1,8 @@
 use Rattle.std.proofs.Common.{refl, arith, drop, get_or, fold, ◌+◌}
 use Rattle.std.proofs.lemmas.List.{at_drop_more}
-use Rattle.ojp_zones.specs.Numbers.{number, with_digit}
-use Rattle.ojp_zones.proofs.NumberFacts.{fold-ge}
-use Rattle.ojp_zones.proofs.numbers.value.Goals as goal
+use Rattle.ojp_values.specs.Numbers.{number, with_digit}
+use Rattle.ojp_values.proofs.Numerals.{fold-ge}
+use Rattle.ojp_values.proofs.numbers.read_digits.Goals as goal
 
 pub loop-digit-init : goal.loop-digit-init
 unfolding number
