@@ -9,7 +9,8 @@ use Rattle.std.proofs.lemmas.Int.{ints}
 use Rattle.std.specs.Prelude.{Option, Some, None, IfSome, cond, Bool, ℤ, negsuc, unsigned_abs, ◌≤ℤ◌, ◌⊎◌}
 use Rattle.std.specs.List.Sorted.{IsNonDecreasingBy, IsPartitionPoint}
 use Rattle.jiff_core.proofs.SignedLemmas.{signed_arith}
-use Rattle.ojp_values.specs.Dates.{date_of}
+use Rattle.ojp_values.specs.Dates.{date_of, operating_days}
+use Rattle.ojp_values.specs.declared.moments.TheConstants.{FIRST_DAY, LAST_DAY}
 use Rattle.ojp_zones.specs.Days.{day_number}
 use Rattle.ojp_zones.specs.Noons.{AreNear, AreNoons, AreYears, AreAllYears, IsNoon, IsOffset, IsSummer, IsYear, IsZone, HoldsDay, change_day, east_by, east_on, is_second, noon_of, noons_from, noons_of}
 use Rattle.ojp_zones.specs.declared.year.Year.{Year}
@@ -38,13 +39,13 @@ abs_of (pos n) h = refl
 abs_of (negsuc n) h = absurd (omega (arith, signed_arith, h))
 
 -- the moment of a noon is that of its day
-is_noon_of : (zone : Zone) (day : ℕ) → IsZone zone → 2 ≤ day → pos (noon_of zone day) ≡ pos (86400 * day + 43200) -ℤ east_on zone (date_of day).year day
+is_noon_of : (zone : Zone) (day : ℕ) → IsZone zone → FIRST_DAY ≤ day → pos (noon_of zone day) ≡ pos (86400 * day + 43200) -ℤ east_on zone (date_of day).year day
 unfolding noon_of
 is_noon_of zone day h low =
     let near = east_near zone (date_of day).year day h in
     abs_of (pos (86400 * day + 43200) -ℤ east_on zone (date_of day).year day) (omega (arith, signed_arith, near, low))
 
-noon_is : (zone : Zone) (day : ℕ) → IsZone zone → 2 ≤ day → day ≤ 84_005 → IsNoon zone day (noon_of zone day)
+noon_is : (zone : Zone) (day : ℕ) → IsZone zone → FIRST_DAY ≤ day → day ≤ 84_005 → IsNoon zone day (noon_of zone day)
 noon_is zone day h low high =
     let year = in_its_year day high in
     record { year = (date_of day).year; begun = year.0; unended = year.1; is = is_noon_of zone day h low }
@@ -60,18 +61,18 @@ noons_from-at zone first zero i h = absurd (omega (arith, h))
 noons_from-at zone first (suc days) zero h = ap (noon_of zone) (omega arith)
 noons_from-at zone first (suc days) (suc i) h = noons_from-at zone (first + 1) days i (omega (arith, h)) ∙ ap (noon_of zone) (omega arith)
 
-pub length-noons_of : (zone : Zone) → length (noons_of zone) ≡ 84_001
+pub length-noons_of : (zone : Zone) → length (noons_of zone) ≡ operating_days
 unfolding noons_of
-length-noons_of zone = length-noons_from zone 2 84_001
+length-noons_of zone = length-noons_from zone FIRST_DAY operating_days
 
-noons_of-at : (zone : Zone) (day : ℕ) → 2 ≤ day → day ≤ 84_002 → get_or (noons_of zone) (day - 2) 0 ≡ noon_of zone day
+noons_of-at : (zone : Zone) (day : ℕ) → FIRST_DAY ≤ day → day ≤ LAST_DAY → get_or (noons_of zone) (day - FIRST_DAY) 0 ≡ noon_of zone day
 unfolding noons_of
-noons_of-at zone day low high = noons_from-at zone 2 84_001 (day - 2) (omega (arith, low, high)) ∙ ap (noon_of zone) (omega (arith, low))
+noons_of-at zone day low high = noons_from-at zone FIRST_DAY operating_days (day - FIRST_DAY) (omega (arith, low, high)) ∙ ap (noon_of zone) (omega (arith, low))
 
 pub noons_are : (zone : Zone) → IsZone zone → AreNoons zone (noons_of zone)
 noons_are zone h = record {
   noon = λ day low high.
-      let last : day ≤ 84_002 = omega (arith, high, length-noons_of zone) in
+      let last : day ≤ LAST_DAY = omega (arith, high, length-noons_of zone) in
       subst (IsNoon zone day) (sym (noons_of-at zone day low last)) (noon_is zone day h low (omega (arith, last)));
 }
 
@@ -136,7 +137,7 @@ abbrev pub EndsBy : ℕ → Year → Bool
 EndsBy day year = leb year.next day
 
 -- the first year that ends behind the day holds it
-pub found : (zone : Zone) (years : List Year) (day i : ℕ) → AreAllYears zone years → day ≤ 84_002 → i ≤ length years
+pub found : (zone : Zone) (years : List Year) (day i : ℕ) → AreAllYears zone years → day ≤ LAST_DAY → i ≤ length years
     → IsPartitionPoint (λ y. EndsBy day y ≡ true) (λ y. EndsBy day y ≡ false) years i → HoldsDay zone years day i
 found zone years day i all high within point =
     let inside : i < length years = some_left (eq-or-lt_of_le within) in record {
@@ -163,9 +164,9 @@ found zone years day i all high within point =
         omega (arith, before, told, same)
 
 -- the noon that such a year gives is that of the list
-pub noon_found : (zone : Zone) (day moment : ℕ) (year : Year) → IsZone zone → 2 ≤ day → day ≤ 84_002
+pub noon_found : (zone : Zone) (day moment : ℕ) (year : Year) → IsZone zone → FIRST_DAY ≤ day → day ≤ LAST_DAY
     → day_number year.number 1 1 ≤ day → day < day_number (year.number + 1) 1 1
-    → pos moment ≡ pos (86400 * day + 43200) -ℤ east_on zone year.number day → moment ≡ get_or (noons_of zone) (day - 2) 0
+    → pos moment ≡ pos (86400 * day + 43200) -ℤ east_on zone year.number day → moment ≡ get_or (noons_of zone) (day - FIRST_DAY) 0
 noon_found zone day moment year h low high begun unended e =
     one_noon zone day moment _ (record { year = year.number; begun = begun; unended = unended; is = e })
     ((noons_are zone h).noon day low (omega (arith, high, length-noons_of zone)))

@@ -1,6 +1,7 @@
 -- The noon of each day in a zone.
 use Rattle.std.specs.Prelude.{◌≡◌, ℕ, ℤ, pos, neg_ℤ, Bool, ◌&&◌, ◌||◌, ◌==◌, cond, nat_le, nat_lt, ◌+◌, ◌-◌, ◌*◌, ◌%◌, ◌≤◌, ◌<◌, ◌-ℤ◌, ◌≤ℤ◌, zero, suc, List, [], ◌∷◌, length, slice_index, slice_index_or, Option, Some, None, IfSome, unsigned_abs}
-use Rattle.ojp_values.specs.Dates.{date_of}
+use Rattle.ojp_values.specs.Dates.{date_of, operating_days}
+use Rattle.ojp_values.specs.declared.moments.TheConstants.{FIRST_DAY}
 use Rattle.ojp_zones.specs.Days.{day_number, next_month}
 use Rattle.ojp_zones.specs.declared.zone.DateRule.{DateRule}
 use Rattle.ojp_zones.specs.declared.zone.Summer.{Summer}
@@ -47,9 +48,9 @@ pub record IsNoon (zone : Zone) (day moment : ℕ) : Type 0 where
   pub unended : day < day_number (year + 1) 1 1
   pub is : pos moment ≡ pos (86400 * day + 43200) -ℤ east_on zone year day
 
--- the moments are the noons of the days from day 2 on
+-- the moments are the noons of the days from the first operating day on
 pub record AreNoons (zone : Zone) (noons : List ℕ) : Type 0 where
-  pub noon : (day : ℕ) → 2 ≤ day → day < 2 + length noons → IsNoon zone day (slice_index noons (day - 2))
+  pub noon : (day : ℕ) → FIRST_DAY ≤ day → day < FIRST_DAY + length noons → IsNoon zone day (slice_index noons (day - FIRST_DAY))
 
 -- the moment of the zone's noon of the day
 unfoldable pub noon_of : Zone → ℕ → ℕ
@@ -60,9 +61,9 @@ unfoldable pub noons_from : Zone → ℕ → ℕ → List ℕ
 noons_from zone first zero = []
 noons_from zone first (suc days) = noon_of zone first ∷ noons_from zone (first + 1) days
 
--- the noons of the operating days, from day 2 to day 84,002
+-- the noons of the operating days
 unfoldable pub noons_of : Zone → List ℕ
-noons_of zone = noons_from zone 2 84_001
+noons_of zone = noons_from zone FIRST_DAY operating_days
 
 -- the numbers of a date rule are in range
 abbrev pub IsRule : DateRule → Type 0
@@ -81,8 +82,8 @@ IsZone zone = IsOffset zone.east × IfSome zone.summer IsSummer
 
 -- no noon is further from that of UTC than an offset may be
 pub record AreNear (noons : List ℕ) : Type 0 where
-  pub low : (day : ℕ) → 2 ≤ day → day < 2 + length noons → 86400 * day + 43200 ≤ slice_index noons (day - 2) + 57540
-  pub high : (day : ℕ) → 2 ≤ day → day < 2 + length noons → slice_index noons (day - 2) ≤ 86400 * day + 43200 + 57540
+  pub low : (day : ℕ) → FIRST_DAY ≤ day → day < FIRST_DAY + length noons → 86400 * day + 43200 ≤ slice_index noons (day - FIRST_DAY) + 57540
+  pub high : (day : ℕ) → FIRST_DAY ≤ day → day < FIRST_DAY + length noons → slice_index noons (day - FIRST_DAY) ≤ 86400 * day + 43200 + 57540
 
 -- the second offset of the zone in the year, with the days of its changes
 abbrev pub IsSeason : Option Summer → ℕ → Option Season → Type 0

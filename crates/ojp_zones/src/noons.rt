@@ -1,5 +1,6 @@
 //! The moments of the noons of the operating days.
 ghost use Rattle.std.specs.Prelude.{◌≡◌, ◌≤◌, ◌<◌, ◌+◌, ◌*◌, ◌&&◌, pos, neg_ℤ, ◌-◌, ◌-ℤ◌, ◌≤ℤ◌, IfOk, length, slice_index};
+ghost use Rattle.ojp_values.specs.Dates.{operating_days};
 ghost use Rattle.ojp_zones.specs.Days.{day_number};
 ghost use Rattle.ojp_zones.specs.declared.zone.Zone.{Zone as ZoneValue};
 ghost use Rattle.ojp_zones.specs.Noons.{AreAllYears, AreNear, AreNoons, HoldsDay, IsOffset, IsYear, IsZone, east_by, east_on, is_second};
@@ -13,7 +14,7 @@ use std::marker::Model;
 
 // The moment of the noon at an offset.
 fn noon(day: u32, east: i32) -> u64
-    requires day { 2 ≤ day }
+    requires day { FIRST_DAY ≤ day }
     requires east { IsOffset east }
     ensures { pos result ≡ pos (86400 * day + 43200) -ℤ east }
 {
@@ -54,7 +55,7 @@ fn year_in(zone: &Zone, number: u16) -> Year
 fn noon_in(zone: &Zone, year: &Year, day: u32) -> u64
     requires zone { IsZone zone.now }
     requires year { IsYear zone.now year.now }
-    requires day { 2 ≤ day }
+    requires day { FIRST_DAY ≤ day }
     ensures { pos result ≡ pos (86400 * day + 43200) -ℤ east_on zone.now year.now.number day }
 {
     match &year.season {
@@ -113,7 +114,7 @@ impl Noons {
     pub fn new(alloc: Global, zone: &Zone) -> Result<Noons, AllocError>
         requires { IsZone zone.now }
         ensures noons { IfOk result (AreNoons zone.now) }
-        ensures days { IfOk result (λ noons. length noons ≡ 84001) }
+        ensures days { IfOk result (λ noons. length noons ≡ operating_days) }
         ensures near { IfOk result AreNear }
     {
         let years = years(alloc, zone)?;

@@ -1,5 +1,6 @@
 use Rattle.std.proofs.Common.{◌-◌, List, sym, subst, ap, ◌∙◌}
 use Rattle.std.specs.Prelude.{None, slice_index, slice_index_or}
+use Rattle.ojp_values.specs.declared.moments.TheConstants.{FIRST_DAY}
 use Rattle.ojp_zones.specs.Noons.{AreAllYears}
 use Rattle.ojp_zones.specs.declared.year.Year.{Year}
 use Rattle.ojp_zones.proofs.NoonFacts.{noon_found}
@@ -22,4 +23,4 @@ returns c =
     let it = c.year_with.ensures zone all in
     let d : Year = record { number = 0; next = 0; season = None } in
     noon_found zone c.args.day c.noon_in.result (slice_index_or c.as_slice-years.result.now c.year_with.result d) c.self.invariant.zone_in_range c.requires.from c.requires.to (it.begun d) (it.unended d) c.noon_in.ensures
-    ∙ ap (λ noons. slice_index noons (c.args.day - 2)) c.self.view_is
+    ∙ ap (λ noons. slice_index noons (c.args.day - FIRST_DAY)) c.self.view_is
