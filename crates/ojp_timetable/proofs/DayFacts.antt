@@ -3,9 +3,10 @@ use Rattle.std.proofs.Common.{◌≡◌, ℕ, zero, suc, ◌+◌, ◌≤◌, ◌
 use Rattle.std.specs.Prelude.{Option, Some, None}
 use Rattle.std.proofs.lemmas.Bool.{cases_Bool}
 use Rattle.std.proofs.Math.Nat.{eq-or-lt_of_le}
-use Rattle.ojp_values.specs.Dates.{day_text}
+use Rattle.ojp_values.specs.Dates.{day_text, operating_days}
 use Rattle.ojp_values.specs.Numbers.{Reads}
 use Rattle.ojp_values.specs.Texts.{Text, same}
+use Rattle.ojp_values.specs.declared.moments.TheConstants.{FIRST_DAY, LAST_DAY}
 use Rattle.ojp_values.proofs.Calendar.{day_text_injective}
 use Rattle.ojp_timetable.specs.Said.{day_from, day_of}
 use Rattle.ojp_timetable.specs.TextLaws.{DaysAreSpelled}
@@ -44,14 +45,14 @@ from_spells first (suc days) text =
 
 pub days_are_spelled : DaysAreSpelled
 unfolding day_of
-days_are_spelled text = in_range (day_from 2 84_001 text) (from_spells 2 84_001 text)
+days_are_spelled text = in_range (day_from FIRST_DAY operating_days text) (from_spells FIRST_DAY operating_days text)
   where
-    in_range : (found : Option ℕ) → Reads (IsOneOf 2 84_001) day_text text found → Reads (λ n. (2 ≤ n) × (n ≤ 84_002)) day_text text found
+    in_range : (found : Option ℕ) → Reads (IsOneOf FIRST_DAY operating_days) day_text text found → Reads (λ n. (FIRST_DAY ≤ n) × (n ≤ LAST_DAY)) day_text text found
     in_range (Some n) is = ((is.0.0, omega (arith, is.0.1)), is.1)
     in_range None none = λ n within spelled. none n (within.0, omega (arith, within.1)) spelled
 
 -- what is read of a text is what it spells
-pub one_reading : (text : Text) (x y : Option ℕ) → Reads (λ n. (2 ≤ n) × (n ≤ 84_002)) day_text text x → Reads (λ n. (2 ≤ n) × (n ≤ 84_002)) day_text text y → x ≡ y
+pub one_reading : (text : Text) (x y : Option ℕ) → Reads (λ n. (FIRST_DAY ≤ n) × (n ≤ LAST_DAY)) day_text text x → Reads (λ n. (FIRST_DAY ≤ n) × (n ≤ LAST_DAY)) day_text text y → x ≡ y
 one_reading text None None none other = refl
 one_reading text None (Some n) none is = absurd (none n is.0 is.1)
 one_reading text (Some n) None is none = absurd (none n is.0 is.1)

@@ -4,6 +4,7 @@ use Rattle.std.specs.Prelude.{Option, option_map, unwrap_or}
 use Rattle.std.proofs.lemmas.List.Sums.{sum_by-cons}
 use Rattle.std.proofs.lemmas.Option.{none-some, same_Some}
 use Rattle.ojp_values.specs.Lists.{Among, Each}
+use Rattle.ojp_values.specs.declared.moments.TheConstants.{FIRST_DAY, LAST_DAY}
 use Rattle.ojp_timetable.specs.Tables.{Journey, Timetable}
 use Rattle.ojp_timetable.specs.Runs.{HaveOwnLabels, IsWell, calls_of, moment}
 use Rattle.ojp_timetable.specs.Views.{calls_at, view_of}
@@ -63,12 +64,12 @@ unfolding calls_at
 calls_are journeys i of at = ap (λ (o : Option Journey). unwrap_or (option_map (λ (j : Journey). j.calls) o) []) at
 
 -- a moment is not long before its day begins, nor long after its offset
-pub moment_low : (table : Timetable) → IsWell table → (day u : ℕ) → 2 ≤ day → day ≤ 84002 → 86400 * day + u ≤ moment table day u + 57540
+pub moment_low : (table : Timetable) → IsWell table → (day u : ℕ) → FIRST_DAY ≤ day → day ≤ LAST_DAY → 86400 * day + u ≤ moment table day u + 57540
 unfolding moment
 moment_low table well day u low high =
     let n = well.noons_low day low high in omega arith
 
-pub moment_high : (table : Timetable) → IsWell table → (day u : ℕ) → 2 ≤ day → day ≤ 84002 → moment table day u ≤ 86400 * day + u + 57540
+pub moment_high : (table : Timetable) → IsWell table → (day u : ℕ) → FIRST_DAY ≤ day → day ≤ LAST_DAY → moment table day u ≤ 86400 * day + u + 57540
 unfolding moment
 moment_high table well day u low high =
     let n = well.noons_high day low high in omega arith

@@ -3,6 +3,7 @@ use Rattle.std.proofs.Common.{◌≡◌, ℕ, suc, zero, ◌<◌, ◌≤◌, Lis
 use Rattle.std.specs.List.{slice_get}
 use Rattle.ojp_values.specs.Lists.{Among}
 use Rattle.ojp_values.specs.Texts.{Text}
+use Rattle.ojp_values.specs.declared.moments.TheConstants.{FIRST_DAY, LAST_DAY}
 use Rattle.ojp_values.specs.declared.trips.Leg.{Leg}
 use Rattle.ojp_timetable.specs.Tables.{Timetable, Call}
 use Rattle.ojp_timetable.specs.Runs.{last_moment, moment, IsLeg, NotBefore, latest, NoneFalls, IsOffset, IsOfRegion, IsWellCall, IsWell}
@@ -62,7 +63,7 @@ leg_forward table leg well ride =
     let arrives : leg.arrives ≡ moment table ride.day ride.comes = ap (λ (it : Leg). it.arrives) ride.is in
     omega arith
 
-moment_bound : (table : Timetable) (day offset : ℕ) → IsWell table → 2 ≤ day → day ≤ 84002 → offset ≤ 129600 → moment table day offset ≤ last_moment
+moment_bound : (table : Timetable) (day offset : ℕ) → IsWell table → FIRST_DAY ≤ day → day ≤ LAST_DAY → offset ≤ 129600 → moment table day offset ≤ last_moment
 unfolding moment
 moment_bound table day offset well low high h = omega (arith, well.noons_high day low high)
 

@@ -3,10 +3,12 @@ use Rattle.std.proofs.Common.{◌≡◌, ◌≢◌, ℕ, ◌+◌, ◌<◌, ◌�
 use Rattle.std.specs.Prelude.{Option, Some, None, IsSome, unwrap_or}
 use Rattle.std.proofs.lemmas.Bool.Decides.{nat_tests}
 use Rattle.std.proofs.lemmas.List.Sums.{sum_by-cons, sum_by_push}
+use Rattle.ojp_values.specs.Dates.{operating_days}
 use Rattle.ojp_values.specs.Lists.{Among, Each}
 use Rattle.ojp_zones.specs.Noons.{AreNear, IsZone}
 use Rattle.ojp_zones.specs.declared.zone.Zone.{Zone}
 use Rattle.ojp_values.specs.Texts.{Text, same, home, is_exchange, code_part}
+use Rattle.ojp_values.specs.declared.moments.TheConstants.{FIRST_DAY, LAST_DAY}
 use Rattle.ojp_values.specs.declared.trips.Point.{Point}
 use Rattle.ojp_values.specs.declared.trips.Neighbour.{Neighbour}
 use Rattle.ojp_timetable.specs.declared.above.TheConstants.{BYTES}
@@ -515,7 +517,7 @@ line_keeps_well above text line w l o p = record {
 
 -- ---- a timetable that was read
 
-noon_in : (noons : List ℕ) (day : ℕ) → length noons ≡ 84001 → day ≤ 84002 → day < 2 + length noons
+noon_in : (noons : List ℕ) (day : ℕ) → length noons ≡ operating_days → day ≤ LAST_DAY → day < FIRST_DAY + length noons
 noon_in noons day e h = omega (arith, e)
 
 whole_each : (journeys : List Journey) → AreWholeBut Nothing journeys → (journey : Journey) → Among journey journeys → AreWhole journey.calls
@@ -526,7 +528,7 @@ whole_each (j ∷ next ∷ more) h journey a = elim a [
   | inr t ↦ whole_each (next ∷ more) h.1 journey t
 ]
 
-pub table_is_well : (contents : Contents) (noons : List ℕ) → IsWellContents contents → AreWholeBut Nothing contents.journeys → AreWellPoints contents.region contents.points → length noons ≡ 84001 → AreNear noons → IsWell (timetable_of contents noons)
+pub table_is_well : (contents : Contents) (noons : List ℕ) → IsWellContents contents → AreWholeBut Nothing contents.journeys → AreWellPoints contents.region contents.points → length noons ≡ operating_days → AreNear noons → IsWell (timetable_of contents noons)
 table_is_well contents noons w whole points days near = record {
   services = w.services;
   dates = w.dates;

@@ -1,8 +1,10 @@
 -- The runs of a timetable, their moments and their rides.
 use Rattle.std.specs.Prelude.{◌≡◌, ◌≢◌, ℕ, ◌+◌, ◌-◌, ◌*◌, ◌%◌, ◌<◌, ◌≤◌, Bool, true, List, [], ◌∷◌, ◌⊎◌, Option, Some, None, IsSome, slice_get, slice_index, unwrap_or, length}
 use Rattle.std.specs.List.{sum_by}
+use Rattle.ojp_values.specs.Dates.{operating_days}
 use Rattle.ojp_values.specs.Lists.{Among, Each}
 use Rattle.ojp_values.specs.Texts.{Text, home, is_exchange}
+use Rattle.ojp_values.specs.declared.moments.TheConstants.{FIRST_DAY, LAST_DAY, LAST_SECOND}
 use Rattle.ojp_values.specs.declared.trips.Leg.{Leg}
 use Rattle.ojp_values.specs.declared.trips.Point.{Point}
 use Rattle.ojp_timetable.specs.Tables.{Timetable, Journey, Service, Call, Place, name_of}
@@ -10,7 +12,7 @@ use Rattle.ojp_timetable.specs.Points.{AreWellPoints}
 
 -- the last moment that a document can spell: 2199-12-31T23:59:59Z
 abbrev pub last_moment : ℕ
-last_moment = 7258118399
+last_moment = LAST_SECOND
 
 -- the requested day: a journey ends at most so many seconds after the asked start
 abbrev pub day_long : ℕ
@@ -27,12 +29,12 @@ pub record RunsOn (table : Timetable) (service day : ℕ) : Type 0 where
   pub first : dates.first ≤ day
   pub last : day ≤ dates.last
   pub marked : slice_get dates.marks (weekday day) ≡ Some true
-  pub low : 2 ≤ day
-  pub high : day ≤ 84002
+  pub low : FIRST_DAY ≤ day
+  pub high : day ≤ LAST_DAY
 
 -- an operating day begins twelve hours before its noon
 unfoldable pub moment : Timetable → ℕ → ℕ → ℕ
-moment table day offset = (slice_index table.noons (day - 2) - 43200) + offset
+moment table day offset = (slice_index table.noons (day - FIRST_DAY) - 43200) + offset
 
 -- the leg of a ride on the day, from one call to another
 abbrev pub leg_of : Timetable → Journey → ℕ → Text → ℕ → Text → ℕ → Leg
@@ -103,7 +105,7 @@ HaveOwnLabels (journey ∷ more) = Each (λ (other : Journey). journey.id ≢ ot
 
 -- the first and the last day are operating days and do not fall, and there is a mark for each weekday
 abbrev pub AreDays : ℕ → ℕ → List Bool → Type 0
-AreDays first last marks = (2 ≤ first) × (first ≤ last) × (last ≤ 84002) × (length marks ≡ 7)
+AreDays first last marks = (FIRST_DAY ≤ first) × (first ≤ last) × (last ≤ LAST_DAY) × (length marks ≡ 7)
 
 -- the exchange point is at the place, with its change time
 abbrev pub IsAt : Point → Place → Type 0
@@ -152,6 +154,6 @@ pub record IsWell (table : Timetable) : Type 0 where
   pub shared : (place : Place) → Among place table.places → is_exchange place.stop ≡ true → (point : Point) × Among point table.points × IsAt point place
   pub placed : (point : Point) → Among point table.points → (place : Place) × Among place table.places × IsAt point place
   pub few : AreFew table.places table.services table.journeys
-  pub days : length table.noons ≡ 84001
-  pub noons_low : (day : ℕ) → 2 ≤ day → day ≤ 84002 → 86400 * day + 43200 ≤ slice_index table.noons (day - 2) + 57540
-  pub noons_high : (day : ℕ) → 2 ≤ day → day ≤ 84002 → slice_index table.noons (day - 2) ≤ 86400 * day + 43200 + 57540
+  pub days : length table.noons ≡ operating_days
+  pub noons_low : (day : ℕ) → FIRST_DAY ≤ day → day ≤ LAST_DAY → 86400 * day + 43200 ≤ slice_index table.noons (day - FIRST_DAY) + 57540
+  pub noons_high : (day : ℕ) → FIRST_DAY ≤ day → day ≤ LAST_DAY → slice_index table.noons (day - FIRST_DAY) ≤ 86400 * day + 43200 + 57540

@@ -3,7 +3,8 @@ use Rattle.std.specs.Prelude.{ℕ, zero, suc, ◌+◌, Bool, true, false, ◌&&�
 use Rattle.std.specs.List.{list_all}
 use Rattle.ojp_values.specs.Texts.{Text, same, is_code, is_label, is_stop_ref, is_exchange, is_name}
 use Rattle.ojp_zones.specs.Numbers.{is_number, number}
-use Rattle.ojp_values.specs.Dates.{day_text}
+use Rattle.ojp_values.specs.Dates.{day_text, operating_days}
+use Rattle.ojp_values.specs.declared.moments.TheConstants.{FIRST_DAY}
 use Rattle.ojp_zones.specs.Zones.{zone_of}
 use Rattle.ojp_zones.specs.declared.zone.Zone.{Zone as ZoneValue}
 use Rattle.ojp_timetable.specs.Fields.{fields_of, joined}
@@ -67,9 +68,9 @@ unfoldable pub day_from : ℕ → ℕ → Text → Option ℕ
 day_from first zero text = None
 day_from first (suc days) text = cond (same (day_text first) text) (Some first) (day_from (first + 1) days text)
 
--- the operating day that is spelled so, from 1970-01-03 to 2199-12-28
+-- the operating day that is spelled so
 unfoldable pub day_of : Text → Option ℕ
-day_of text = day_from 2 84_001 text
+day_of text = day_from FIRST_DAY operating_days text
 
 -- the days do not fall
 abbrev pub service_days : Text → Option ℕ → Option ℕ → Text → Said

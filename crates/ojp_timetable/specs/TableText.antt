@@ -1,6 +1,7 @@
 -- The text of a timetable, and where another is refused.
 use Rattle.std.specs.Prelude.{◌≡◌, ℕ, ◌+◌, ◌-◌, ◌<◌, ◌≤◌, ◌==◌, List, [], ◌∷◌, length, take, get_or, nat_lt, cond, Option, Some, None, Ok, Err}
 use Rattle.std.specs.List.{fold, onto_first}
+use Rattle.ojp_values.specs.Dates.{operating_days}
 use Rattle.ojp_values.specs.Texts.{Text}
 use Rattle.ojp_zones.specs.Noons.{AreNoons}
 use Rattle.ojp_timetable.specs.Tables.{Timetable}
@@ -57,9 +58,9 @@ abbrev pub contents_of : Text → Contents
 contents_of bytes = (above_of (lines_of bytes)).contents
 
 -- the bytes are a text of the timetable: no line fails a check, and the timetable is what they declare, with the
--- noons of the operating days from day 2 to day 84,002 in their zone
+-- noons of the operating days in their zone
 pub record IsText (bytes : Text) (table : Timetable) : Type 0 where
   pub passed : ArePassed (lines_of bytes) (length (lines_of bytes) + 1)
   pub makes : table ≡ timetable_of (contents_of bytes) table.noons
   pub noons : AreNoons (contents_of bytes).zone table.noons
-  pub days : length table.noons ≡ 84001
+  pub days : length table.noons ≡ operating_days

@@ -3,6 +3,7 @@ use Rattle.std.specs.Prelude.{◌≡◌, ◌≤◌, ℕ}
 use Rattle.ojp_values.specs.Dates.{day_text}
 use Rattle.ojp_values.specs.Numbers.{Reads}
 use Rattle.ojp_values.specs.Texts.{Text}
+use Rattle.ojp_values.specs.declared.moments.TheConstants.{FIRST_DAY, LAST_DAY}
 use Rattle.ojp_timetable.specs.Tables.{Timetable}
 use Rattle.ojp_timetable.specs.Points.{AreWellPoints}
 use Rattle.ojp_timetable.specs.Said.{day_of}
@@ -31,4 +32,4 @@ PointsAreWell = (bytes : Text) (table : Timetable) → IsText bytes table → Ar
 
 -- the days of services are spelled as those of documents are
 abbrev pub DaysAreSpelled : Type 0
-DaysAreSpelled = (text : Text) → Reads (λ n. (2 ≤ n) × (n ≤ 84_002)) day_text text (day_of text)
+DaysAreSpelled = (text : Text) → Reads (λ n. (FIRST_DAY ≤ n) × (n ≤ LAST_DAY)) day_text text (day_of text)

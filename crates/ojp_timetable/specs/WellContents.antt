@@ -1,5 +1,6 @@
 -- What the contents of lines that pass keep.
 use Rattle.std.specs.Prelude.{◌≡◌, ◌≤◌, ◌<◌, ℕ, true, false, List, [], ◌∷◌, None, IsSome, length}
+use Rattle.ojp_values.specs.Dates.{operating_days}
 use Rattle.ojp_values.specs.Lists.{Among, Each}
 use Rattle.ojp_values.specs.Texts.{is_exchange}
 use Rattle.ojp_values.specs.declared.trips.Point.{Point}
@@ -112,7 +113,7 @@ pub record IsWellAbove (above : Above) : Type 0 where
 -- day, none is far from that of UTC, and the contents are well, the exchange points and each journey among them
 pub record IsWhole (contents : Contents) (noons : List ℕ) : Type 0 where
   pub named : 0 < length contents.region
-  pub days : length noons ≡ 84001
+  pub days : length noons ≡ operating_days
   pub near : AreNear noons
   pub well : IsWellContents contents
   pub whole : AreWholeBut Nothing contents.journeys

@@ -2,6 +2,7 @@
 ghost use Rattle.std.specs.Prelude.{◌≡◌, ◌≤◌, ◌↔◌, true, false, IsTrue, IsSome, IfSome, MatchOption, IfOk, ◌∷◌, [], List, ℕ, codes};
 ghost use Rattle.std.specs.List.{list_all};
 ghost use Rattle.ojp_values.specs.Texts.{same};
+ghost use Rattle.ojp_values.specs.declared.moments.TheConstants.{FIRST_DAY, LAST_DAY};
 ghost use Rattle.ojp_timetable.specs.Lines.{IsWellLine, left_by, left_open};
 ghost use Rattle.ojp_timetable.specs.Runs.{IsOffset};
 ghost use Rattle.ojp_timetable.specs.WellContents.{GoesOnFrom, MayStand, MayStandClosed};
@@ -112,7 +113,7 @@ fn read_marks(text: &[u8]) -> Option<[bool; 7]>
 // The number of the operating day that the text spells.
 fn read_day(text: &[u8]) -> Option<u32>
     ensures value { result ≡ day_of text.now }
-    ensures within { IfSome result (λ day. (2 ≤ day) × (day ≤ 84002)) }
+    ensures within { IfSome result (λ day. (FIRST_DAY ≤ day) × (day ≤ LAST_DAY)) }
 {
     let day = Day::read(text)?;
     Some(day.number())
