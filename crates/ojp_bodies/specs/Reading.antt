@@ -8,7 +8,7 @@ use Rattle.ojp_values.specs.declared.asks.Ask.{Ask}
 use Rattle.ojp_grammar.specs.declared.refusals.Want.TheVariants.{Request}
 use Rattle.ojp_grammar.specs.declared.refusals.WholeRefused.{WholeRefused}
 use Rattle.ojp_grammar.specs.Answering.{SpellsAsk}
-use Rattle.ojp_grammar.specs.Places.{IsRefused}
+use Rattle.ojp_grammar.specs.Places.{IsDocumentRefused}
 use Rattle.ojp_grammar.specs.Whole.{IsWholeRefused}
 use Rattle.ojp_http.specs.declared.refusal.HttpRefusal.TheVariants as refusals
 use Rattle.ojp_http.specs.Asking.{Allows, HttpAsk, ReadsNoFurther}
@@ -33,7 +33,7 @@ pub record IsAsked (left : Option Text) : Type 0 where
 abbrev pub Gives : Option Text → Result Ask Declined → Type 0
 Gives left (Ok ask) = (body : Text) × Allows left (Ok body) × SpellsAsk ask body × IsWellAsk ask
 Gives left (Err (declined.Http refusal)) = Allows left (Err refusal)
-Gives left (Err (declined.Body refused)) = (body : Text) × Allows left (Ok body) × IsRefused Request body refused.at refused.reason
+Gives left (Err (declined.Body refused)) = (body : Text) × Allows left (Ok body) × IsDocumentRefused Request body refused.at refused.reason
 
 -- a request was read from the source: a fault has its cause, and nothing behind the piece that decides was read
 pub record TakesAsk (old new : SourceView) (result : Result Ask Declined) : Type 0 where

@@ -4,7 +4,7 @@ use Rattle.ojp_grammar.specs.declared.refusals.Want.TheVariants.{Either}
 use Rattle.ojp_outside.specs.Seen.{SourceView, SinkView}
 use Rattle.ojp_steps.specs.Lent.{Lent, before, after}
 use Rattle.ojp_cli.specs.Checks.{Checked, CheckFails, CheckIsDue, no_document, a_name}
-use Rattle.ojp_steps.specs.Endings.{Ends, Concludes}
+use Rattle.ojp_steps.specs.Endings.{HasEnding, Concludes}
 use Rattle.ojp_steps.specs.declared.failures.Failure.{Failure}
 use Rattle.ojp_steps.specs.declared.failures.Failure.TheVariants.{Document, Words, Unread, TooLong, Input, Output, Memory, Line, Twice, TooMany, Disagree, Region, Doors}
 use Rattle.ojp_steps.proofs.FileFacts.{rests_or_rose}
@@ -12,7 +12,7 @@ use Rattle.ojp_steps.proofs.InputFacts.{reads, spelled_or_refused, refused_or_sp
 
 module _ {I O : Type 0} (input : Lent I SourceView) (output : Lent O SinkView) where
   pub due_to_check : {E : Type 0} (ended : Result (Unit {0}) Failure) (faults : Lent E SinkView) (result status : ℕ)
-      → Ends (Checked input output) (CheckFails input output) ended → Concludes ended faults result
+      → HasEnding (Checked input output) (CheckFails input output) ended → Concludes ended faults result
       → CheckIsDue input output status → (result ≡ 5) ⊎ (result ≡ status)
   due_to_check (Ok nothing) faults result status e c (no_document bytes heard at reason refused) = absurd (spelled_or_refused Either input bytes heard e.doc at reason e.of_input refused)
   due_to_check (Err (Document place cause)) faults result status e c (no_document bytes heard at reason refused) = inr c.0

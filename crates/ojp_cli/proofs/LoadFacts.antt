@@ -3,7 +3,7 @@ use Rattle.std.proofs.Common.{◌≡◌, ℕ, ◌⊎◌, Result, Ok, Err, inl, i
 use Rattle.ojp_values.specs.Texts.{Text}
 use Rattle.ojp_outside.specs.Seen.{SinkView}
 use Rattle.ojp_steps.specs.Lent.{Lent, before, after}
-use Rattle.ojp_steps.specs.Endings.{Ends, Concludes}
+use Rattle.ojp_steps.specs.Endings.{HasEnding, Concludes}
 use Rattle.ojp_steps.specs.declared.failures.Failure.{Failure}
 use Rattle.ojp_steps.specs.declared.failures.Failure.TheVariants.{Document, Words, Unread, TooLong, Input, Output, Memory, Line, Twice, TooMany, Disagree, Region, Doors}
 use Rattle.ojp_steps.proofs.EndFacts.{ends_as}
@@ -15,12 +15,12 @@ use Rattle.ojp_cli.specs.Runs.{LoadDue, RunsLoad}
 module _ {O : Type 0} (word : Text) (output : Lent O SinkView) where
   -- `load` ran over the network of its word
   pub runs_load : {E : Type 0} (faults : Lent E SinkView) (number : ℕ) (ended : Result (Unit {0}) Failure) (status : ℕ) → IsNumber word number
-      → Ends (Loaded number output) (LoadFails number output) ended → Concludes ended faults status → RunsLoad word output faults status
+      → HasEnding (Loaded number output) (LoadFails number output) ended → Concludes ended faults status → RunsLoad word output faults status
   runs_load faults number ended status is ends concludes =
       inl (number, is, ends_as (Loaded number output) (LoadFails number output) ended faults status ends concludes)
 
   due_by : {E : Type 0} (faults : Lent E SinkView) (number : ℕ) (ended : Result (Unit {0}) Failure) (status due : ℕ)
-      → Ends (Loaded number output) (LoadFails number output) ended → Concludes ended faults status → LoadIsDue output due → (status ≡ 5) ⊎ (status ≡ due)
+      → HasEnding (Loaded number output) (LoadFails number output) ended → Concludes ended faults status → LoadIsDue output due → (status ≡ 5) ⊎ (status ≡ due)
   due_by faults number (Ok nothing) status due e c d = inr (c.0 ∙ sym d.1)
   due_by faults number (Err Output) status due e c d = absurd (rests_or_rose (before output).faults (after output).faults d.0 e.gained.rose)
   due_by faults number (Err Memory) status due e c d = inl c.0
@@ -38,7 +38,7 @@ module _ {O : Type 0} (word : Text) (output : Lent O SinkView) where
 
   -- the status that is due to `load`
   pub due_to_load : {E : Type 0} (faults : Lent E SinkView) (number : ℕ) (ended : Result (Unit {0}) Failure) (status : ℕ) → IsNumber word number
-      → Ends (Loaded number output) (LoadFails number output) ended → Concludes ended faults status
+      → HasEnding (Loaded number output) (LoadFails number output) ended → Concludes ended faults status
       → (due : ℕ) → LoadDue word output due → (status ≡ 5) ⊎ (status ≡ due)
   due_to_load faults number ended status is ends concludes due (inl d) = due_by faults number ended status due ends concludes d.2
   due_to_load faults number ended status is ends concludes due (inr d) = absurd (d.0 number is)

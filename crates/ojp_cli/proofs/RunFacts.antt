@@ -4,7 +4,7 @@ use Rattle.ojp_values.specs.Texts.{Text}
 use Rattle.ojp_outside.specs.Seen.{SourceView, SinkView}
 use Rattle.ojp_steps.specs.Lent.{Lent, lent}
 use Rattle.ojp_cli.specs.Words.{Command, Plan, Check, IsOrder}
-use Rattle.ojp_steps.specs.Endings.{Ends, Concludes}
+use Rattle.ojp_steps.specs.Endings.{HasEnding, Concludes}
 use Rattle.ojp_steps.proofs.EndFacts.{ends_traced}
 use Rattle.ojp_cli.specs.Runs.{IsDue, PlanDue, RunsAs}
 use Rattle.ojp_links_mem.specs.Files.{FilesView}
@@ -45,7 +45,7 @@ module _ {I O F : Type 0} (named : Option Command) (order_word : Option Text) (t
 
 -- the status that is due to `check`
 pub due_if_check : {I O E F : Type 0} (named : Option Command) (input : Lent I SourceView) (output : Lent O SinkView) (faults : Lent E SinkView) (files : Lent F FilesView)
-    (ended : Result (Unit {0}) Failure) (result : ℕ) → named ≡ Some Check → Ends (Checked input output) (CheckFails input output) ended → Concludes ended faults result
+    (ended : Result (Unit {0}) Failure) (result : ℕ) → named ≡ Some Check → HasEnding (Checked input output) (CheckFails input output) ended → Concludes ended faults result
     → (status : ℕ) → IsDue named input output files status → (result ≡ 5) ⊎ (result ≡ status)
 due_if_check named input output faults files ended result e ends concludes status due =
     due_to_check input output ended faults result status ends concludes (subst (λ (n : Option Command). IsDue n input output files status) e due)

@@ -9,7 +9,7 @@ use Rattle.ojp_values.specs.declared.documents.Doc.{Doc}
 use Rattle.ojp_values.specs.declared.documents.Doc.TheVariants as docs
 use Rattle.ojp_outside.specs.Causes.{Rests}
 use Rattle.ojp_grammar.specs.Documents.{IsWanted, Spells}
-use Rattle.ojp_grammar.specs.Places.{IsRefused}
+use Rattle.ojp_grammar.specs.Places.{IsDocumentRefused}
 use Rattle.ojp_grammar.specs.declared.refusals.Reason.{Reason}
 use Rattle.ojp_grammar.specs.declared.refusals.Want.TheVariants.{Either}
 use Rattle.ojp_outside.specs.Seen.{SourceView, SinkView}
@@ -59,7 +59,7 @@ CheckFails input output failure = ⊥
 -- the status that is due where the input tells its bytes and no count rose
 pub data CheckIsDue {I O : Type 0} (input : Lent I SourceView) (output : Lent O SinkView) : ℕ → Type 0 where
   -- the input is no document
-  no_document : (bytes : Text) → IsHeard input bytes → (at : ℕ) (reason : Reason) → IsRefused Either bytes at reason → CheckIsDue input output 1
+  no_document : (bytes : Text) → IsHeard input bytes → (at : ℕ) (reason : Reason) → IsDocumentRefused Either bytes at reason → CheckIsDue input output 1
   -- the input is a document, and no write failed
   a_name : (bytes : Text) → IsHeard input bytes → (doc : Doc) → IsWanted Either doc → Spells doc bytes
       → Rests (before output).faults (after output).faults → CheckIsDue input output 0

@@ -12,7 +12,7 @@ use Rattle.ojp_grammar.specs.Documents.{items}
 use Rattle.ojp_grammar.specs.Folding.{Waiting}
 use Rattle.ojp_grammar.specs.Items.{Item, spell}
 use Rattle.ojp_grammar.specs.Machine.{StopsFor}
-use Rattle.ojp_grammar.specs.Places.{IsRefused}
+use Rattle.ojp_grammar.specs.Places.{IsDocumentRefused}
 use Rattle.ojp_grammar.specs.Reached.{At, start_of}
 use Rattle.ojp_grammar.specs.Running.{IsReading, Stands, IsRead}
 use Rattle.ojp_grammar.specs.Steps.{Accepts, stack_of}
@@ -62,7 +62,7 @@ decides want m bytes tail more reason same r stops other =
     (reading_more m.want m.at (stack_of m.stack.items) m.draft bytes tail more r) (stops_more (stack_of m.stack.items) tail more reason stops other) other)
 
 -- a machine that waits awaits more
-pub waits : (m : Machine) (bytes kept : List ℕ) → IsWaiting m bytes kept → IsRefused m.want bytes m.at reasons.Truncated
+pub waits : (m : Machine) (bytes kept : List ℕ) → IsWaiting m bytes kept → IsDocumentRefused m.want bytes m.at reasons.Truncated
 waits m bytes kept w = stop_refused m.want m.at (stack_of m.stack.items) m.draft bytes kept reasons.Truncated w.stands w.stops
 
 pub begins_none : (m : Machine) (bytes kept : List ℕ) → IsWaiting m bytes kept → BeginsNone m.want bytes
@@ -150,10 +150,10 @@ trailing_stays want bytes piece document some more =
     let all : List ℕ = spell w ++ (piece ++ more) in
     let at : At (start_of want) all w [] (piece ++ more) =
     at_accepted (start_of want) all means.plain [] w (start_of want) (piece ++ more) (at_start (start_of want) all means.plain) (means.accepts document.0 document.1) in
-    let refused : IsRefused want all (length (spell w)) reasons.Trailing =
+    let refused : IsDocumentRefused want all (length (spell w)) reasons.Trailing =
     at_trailing want (start_of want) all w (piece ++ more) means at (λ none. some (nothing_left piece more none)) in
-    let P : List ℕ → Type 0 = λ b. IsRefused want b (length (spell w)) reasons.Trailing in
-    let Q : List ℕ → Type 0 = λ b. IsRefused want ((b ++ piece) ++ more) (length b) reasons.Trailing in
+    let P : List ℕ → Type 0 = λ b. IsDocumentRefused want b (length (spell w)) reasons.Trailing in
+    let Q : List ℕ → Type 0 = λ b. IsDocumentRefused want ((b ++ piece) ++ more) (length b) reasons.Trailing in
     subst Q (sym document.2) (subst P (sym (append_assoc (spell w) piece more)) refused)
 
 pub ended_at : (m : Machine) (bytes kept : List ℕ) → IsEnded m bytes kept → m.at ≡ length bytes

@@ -6,7 +6,7 @@ use Rattle.ojp_grammar.specs.declared.refusals.Refused.{Refused}
 use Rattle.ojp_grammar.specs.declared.refusals.Want.{Want}
 use Rattle.ojp_grammar.specs.Items.{spell}
 use Rattle.ojp_grammar.specs.Documents.{items, IsWanted, Spells}
-use Rattle.ojp_grammar.specs.Places.{IsRefused}
+use Rattle.ojp_grammar.specs.Places.{IsDocumentRefused}
 use Rattle.ojp_grammar.specs.Whole.{IsWhole}
 use Rattle.ojp_decode.specs.declared.fed.Fed.{Fed}
 use Rattle.ojp_decode.specs.declared.fed.Fed.TheVariants as feds
@@ -20,16 +20,16 @@ BeginsNone want bytes = (doc : Doc) (behind : List ℕ) → IsWanted want doc �
 
 -- whatever follows the bytes, they are refused at this place for this reason
 abbrev pub StaysRefused : Want → List ℕ → Refused → Type 0
-StaysRefused want bytes refused = (more : List ℕ) → IsRefused want (bytes ++ more) refused.at refused.reason
+StaysRefused want bytes refused = (more : List ℕ) → IsDocumentRefused want (bytes ++ more) refused.at refused.reason
 
 -- no wanted document begins the bytes, and they are refused as truncated, at a place where more may come
 pub record Awaits (want : Want) (bytes : List ℕ) : Type 0 where
   pub none : BeginsNone want bytes
   pub at : ℕ
-  pub refused : IsRefused want bytes at Truncated
+  pub refused : IsDocumentRefused want bytes at Truncated
 
 -- a wanted document ends behind so many bytes of the piece
-pub record Ends (want : Want) (bytes piece : List ℕ) (used : ℕ) : Type 0 where
+pub record EndsWithin (want : Want) (bytes piece : List ℕ) (used : ℕ) : Type 0 where
   pub within : used ≤ length piece
   pub whole : IsWhole want (bytes ++ take used piece)
 
@@ -43,7 +43,7 @@ pub record Decides (want : Want) (bytes : List ℕ) (refused : Refused) : Type 0
 abbrev pub FeedsOn : Want → List ℕ → List ℕ → Result Fed ReadRefused → Progress → Type 0
 FeedsOn want bytes piece (Ok feds.More) new = Awaits want (bytes ++ piece) × (new ≡ reading want (bytes ++ piece))
 FeedsOn want bytes piece (Ok (feds.Whole used)) new =
-    Ends want bytes piece used × (new ≡ whole want (bytes ++ take used piece))
+    EndsWithin want bytes piece used × (new ≡ whole want (bytes ++ take used piece))
 FeedsOn want bytes piece (Err (At refused)) new = Decides want (bytes ++ piece) refused × (new ≡ over refused)
 FeedsOn want bytes piece (Err NoMemory) new = new ≡ spent
 
@@ -60,7 +60,7 @@ pub record FeedsBehind (want : Want) (bytes piece : List ℕ) (result : Result F
 -- bytes in which no document is whole are refused as truncated, at their place
 abbrev pub IsCut : Want → List ℕ → Result Doc ReadRefused → Type 0
 IsCut want bytes (Ok doc) = ⊥
-IsCut want bytes (Err (At refused)) = (refused.reason ≡ Truncated) × IsRefused want bytes refused.at Truncated
+IsCut want bytes (Err (At refused)) = (refused.reason ≡ Truncated) × IsDocumentRefused want bytes refused.at Truncated
 IsCut want bytes (Err NoMemory) = ⊥
 
 -- the bytes of a whole document give it

@@ -65,8 +65,8 @@ pub record IsDispute (lists : List RegionPoints) (point left right : Text) : Typ
   pub first : IsFirstDispute book point left right
 
 -- why the lists make no book: the first of these that applies; want of memory may come at any lists
-abbrev pub IsRefused : List RegionPoints → BookRefused → Type 0
-IsRefused lists (refusals.TwiceRegion code) = IsLeastTwice lists code
-IsRefused lists refusals.TooMany = HaveOwnCodes lists × AreTooMany lists
-IsRefused lists (refusals.Disagree point left right) = IsDispute lists point left right
-IsRefused lists refusals.NoMemory = Unit {0}
+abbrev pub JoinFails : List RegionPoints → BookRefused → Type 0
+JoinFails lists (refusals.TwiceRegion code) = IsLeastTwice lists code
+JoinFails lists refusals.TooMany = HaveOwnCodes lists × AreTooMany lists
+JoinFails lists (refusals.Disagree point left right) = IsDispute lists point left right
+JoinFails lists refusals.NoMemory = Unit {0}

@@ -4,7 +4,7 @@ ghost use Rattle.std.specs.Prelude.{◌≡◌, ◌<◌, length, IfOk, IfErr, Mat
 ghost use Rattle.ojp_exchange.specs.Book.{HasChange, is_home, serves};
 ghost use Rattle.ojp_exchange.specs.Kept.{AreKept, ArePointsAt, book_of, HasNoChange, IsSound, IsWellBook, spot_of};
 ghost use Rattle.ojp_exchange.specs.Places.{AreEdges, AreWays, IsCodeAt, IsNoCode, IsPairAt, IsSpotAt, NoPairAt};
-ghost use Rattle.ojp_exchange.specs.Joins.{AreWellLists, IsJoined, IsRefused};
+ghost use Rattle.ojp_exchange.specs.Joins.{AreWellLists, IsJoined, JoinFails};
 
 use crate::collected::{copies_at, regions_of, sorted_codes, sorted_points};
 use crate::joins::{first_dispute, first_twice, has_code, stops_in};
@@ -52,7 +52,7 @@ impl Book {
     pub fn join(alloc: Global, lists: &[RegionPoints]) -> Result<Book, BookRefused>
         requires { AreWellLists lists.now }
         ensures joined { IfOk result (IsJoined lists.now) }
-        ensures refused { IfErr result (IsRefused lists.now) }
+        ensures refused { IfErr result (JoinFails lists.now) }
     {
         let Ok(codes) = sorted_codes(alloc, lists) else {
             return Err(BookRefused::NoMemory);

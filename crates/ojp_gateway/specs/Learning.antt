@@ -15,7 +15,7 @@ use Rattle.ojp_exchange.specs.declared.region_points.RegionPoints.{RegionPoints}
 use Rattle.ojp_exchange.specs.declared.refusals.BookRefused.{BookRefused}
 use Rattle.ojp_exchange.specs.declared.refusals.BookRefused.TheVariants as book_refusals
 use Rattle.ojp_exchange.specs.Book.{Book, points_of}
-use Rattle.ojp_exchange.specs.Joins.{AreWellLists, IsJoined, IsRefused}
+use Rattle.ojp_exchange.specs.Joins.{AreWellLists, IsJoined, JoinFails}
 use Rattle.ojp_links.specs.Replies.{FitsExpected, IsReplyOf, ask_of}
 use Rattle.ojp_links.specs.Seen.{View, NoneLive, code_at, codes_of, TellsTables}
 use Rattle.ojp_links.specs.Calls.{Keeps}
@@ -115,7 +115,7 @@ pub record FailsFirst (old new : View) (code : Text) : Type 0 where
 pub record IsRefusedHeard (v : View) (reason : BookRefused) : Type 0 where
   pub lists : List RegionPoints
   pub heard : AreHeard v lists
-  pub refused : IsRefused lists reason
+  pub refused : JoinFails lists reason
   pub some : reason ≢ book_refusals.NoMemory
 
 -- what the answer of a learning call means

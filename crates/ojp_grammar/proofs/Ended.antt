@@ -12,7 +12,7 @@ use Rattle.ojp_grammar.specs.declared.machine.Ran.{Ran}
 use Rattle.ojp_grammar.specs.declared.shapes.Shape.{Shape}
 use Rattle.ojp_grammar.specs.Syntax.{Syntax}
 use Rattle.ojp_grammar.specs.Documents.{IsWanted, Spells}
-use Rattle.ojp_grammar.specs.Places.{IsRefused}
+use Rattle.ojp_grammar.specs.Places.{IsDocumentRefused}
 use Rattle.ojp_grammar.specs.Steps.{stack_of}
 use Rattle.ojp_grammar.specs.Reached.{start_of}
 use Rattle.ojp_grammar.specs.Folding.{Waiting}
@@ -23,15 +23,15 @@ use Rattle.ojp_grammar.proofs.Refusal.{at_refused, at_trailing}
 use Rattle.ojp_grammar.proofs.Wanted.{start_means}
 use Rattle.ojp_grammar.proofs.Drafts.{finishes}
 
-pub stop_refused : (want : Want) (at : ℕ) (open_shapes : List Syntax) (waiting : Waiting) (bytes tail : List ℕ) (reason : Reason) → IsReading want at open_shapes waiting bytes tail → StopsFor open_shapes tail reason → IsRefused want bytes at reason
+pub stop_refused : (want : Want) (at : ℕ) (open_shapes : List Syntax) (waiting : Waiting) (bytes tail : List ℕ) (reason : Reason) → IsReading want at open_shapes waiting bytes tail → StopsFor open_shapes tail reason → IsDocumentRefused want bytes at reason
 stop_refused want at [] waiting bytes tail reason r stops = absurd stops
 stop_refused want at (s ∷ k) waiting bytes tail reason r stops =
-    subst (λ n. IsRefused want bytes n reason) (sym r.place)
+    subst (λ n. IsDocumentRefused want bytes n reason) (sym r.place)
     (at_refused want (start_of want) bytes r.front s k tail reason (start_means want) r.reached stops)
 
-pub end_refused : (want : Want) (at : ℕ) (waiting : Waiting) (bytes tail : List ℕ) → IsReading want at [] waiting bytes tail → tail ≢ [] → IsRefused want bytes at reasons.Trailing
+pub end_refused : (want : Want) (at : ℕ) (waiting : Waiting) (bytes tail : List ℕ) → IsReading want at [] waiting bytes tail → tail ≢ [] → IsDocumentRefused want bytes at reasons.Trailing
 end_refused want at waiting bytes tail r some =
-    subst (λ n. IsRefused want bytes n reasons.Trailing) (sym r.place)
+    subst (λ n. IsDocumentRefused want bytes n reasons.Trailing) (sym r.place)
     (at_trailing want (start_of want) bytes r.front tail (start_means want) r.reached some)
 
 -- the machine after a run, for the wanted documents

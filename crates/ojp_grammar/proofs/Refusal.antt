@@ -10,7 +10,7 @@ use Rattle.ojp_grammar.specs.declared.refusals.Reason.TheVariants as reasons
 use Rattle.ojp_grammar.specs.Items.{Item, tag, value, spell}
 use Rattle.ojp_grammar.specs.Syntax.{Syntax, value_of}
 use Rattle.ojp_grammar.specs.Documents.{items, IsWanted, Spells}
-use Rattle.ojp_grammar.specs.Places.{Stands, Begins, Expects, ExpectsField, StandsFor, IsRefused}
+use Rattle.ojp_grammar.specs.Places.{Stands, Begins, Expects, ExpectsField, StandsFor, IsDocumentRefused}
 use Rattle.ojp_grammar.specs.Steps.{begins, enter, wants, leave, Accepts, Comes, Sticks, IsPlain, ArePlain}
 use Rattle.ojp_grammar.specs.Reached.{At}
 use Rattle.ojp_grammar.proofs.Words.{kind_of-value_of}
@@ -100,7 +100,7 @@ no_front want start bytes front s k tail reason means at h doc after wanted e =
     (document_next start bytes front s k tail means.plain at [] after (items doc) (means.accepts doc wanted) (append-nil bytes ∙ e))
 
 -- where no item comes next, the bytes are refused
-pub at_refused : (want : Want) (start : List Syntax) (bytes : List ℕ) (front : List Item) (s : Syntax) (k : List Syntax) (tail : List ℕ) (reason : Reason) → Means want start → At start bytes front (s ∷ k) tail → Sticks s tail reason → IsRefused want bytes (length (spell front)) reason
+pub at_refused : (want : Want) (start : List Syntax) (bytes : List ℕ) (front : List Item) (s : Syntax) (k : List Syntax) (tail : List ℕ) (reason : Reason) → Means want start → At start bytes front (s ∷ k) tail → Sticks s tail reason → IsDocumentRefused want bytes (length (spell front)) reason
 at_refused want start bytes front s k tail reason means at h = record {
   none = λ doc wanted spelled.
       alone s front (items doc) tail [] reason at.plain.0 h
@@ -126,7 +126,7 @@ none_left [] b h = refl
 none_left (i ∷ a) b h = absurd h
 
 -- behind a whole document no more bytes may come
-pub at_trailing : (want : Want) (start : List Syntax) (bytes : List ℕ) (front : List Item) (tail : List ℕ) → Means want start → At start bytes front [] tail → tail ≢ [] → IsRefused want bytes (length (spell front)) reasons.Trailing
+pub at_trailing : (want : Want) (start : List Syntax) (bytes : List ℕ) (front : List Item) (tail : List ℕ) → Means want start → At start bytes front [] tail → tail ≢ [] → IsDocumentRefused want bytes (length (spell front)) reasons.Trailing
 at_trailing want start bytes front tail means at some = record {
   none = λ doc wanted spelled.
       let h = means.accepts doc wanted in

@@ -7,7 +7,7 @@ use Rattle.ojp_values.specs.declared.documents.Doc.TheVariants as docs
 use Rattle.ojp_grammar.specs.declared.refusals.Reason.{Reason}
 use Rattle.ojp_grammar.specs.declared.refusals.Want.TheVariants as wants
 use Rattle.ojp_grammar.specs.Documents.{IsWanted, Spells}
-use Rattle.ojp_grammar.specs.Places.{IsRefused}
+use Rattle.ojp_grammar.specs.Places.{IsDocumentRefused}
 use Rattle.ojp_grammar.specs.Reasons.{refusal_line}
 
 -- the bytes are the document of the ask
@@ -24,7 +24,7 @@ pub record SpellsDelivery (delivery : Delivery) (bytes : Text) : Type 0 where
 pub record RefusesBody (body : Text) (status : ℕ) (text : Text) : Type 0 where
   pub at : ℕ
   pub reason : Reason
-  pub refused : IsRefused wants.Request body at reason
+  pub refused : IsDocumentRefused wants.Request body at reason
   pub is_status : status ≡ 400
   pub is_text : text ≡ refusal_line at reason
 

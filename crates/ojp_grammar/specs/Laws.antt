@@ -6,7 +6,7 @@ use Rattle.ojp_grammar.specs.declared.refusals.Reason.{Reason}
 use Rattle.ojp_grammar.specs.declared.refusals.Reason.TheVariants.{Trailing}
 use Rattle.ojp_grammar.specs.Items.{spell}
 use Rattle.ojp_grammar.specs.Documents.{items, IsWanted}
-use Rattle.ojp_grammar.specs.Places.{IsRefused}
+use Rattle.ojp_grammar.specs.Places.{IsDocumentRefused}
 
 -- documents in front of the same bytes are the same, item by item, and the same bytes stand behind them
 abbrev pub OneSpelling : Type 0
@@ -17,20 +17,20 @@ OneSpelling =
 -- bytes that are refused are refused at one place, and for one reason
 abbrev pub OnePlace : Type 0
 OnePlace =
-    (want : Want) (bytes : List ℕ) (at place : ℕ) (reason cause : Reason) → IsRefused want bytes at reason
-    → IsRefused want bytes place cause → (at ≡ place) × (reason ≡ cause)
+    (want : Want) (bytes : List ℕ) (at place : ℕ) (reason cause : Reason) → IsDocumentRefused want bytes at reason
+    → IsDocumentRefused want bytes place cause → (at ≡ place) × (reason ≡ cause)
 
 -- bytes behind a wanted document are refused where it ends
 abbrev pub MoreIsRefused : Type 0
 MoreIsRefused =
     (want : Want) (doc : Doc) (more : List ℕ) → IsWanted want doc → more ≢ []
-    → IsRefused want (spell (items doc) ++ more) (length (spell (items doc))) Trailing
+    → IsDocumentRefused want (spell (items doc) ++ more) (length (spell (items doc))) Trailing
 
 -- a wanted document is refused for bytes behind it alone
 abbrev pub OnlyMoreIsRefused : Type 0
 OnlyMoreIsRefused =
     (want : Want) (doc : Doc) (more : List ℕ) (at : ℕ) (reason : Reason) → IsWanted want doc
-    → IsRefused want (spell (items doc) ++ more) at reason
+    → IsDocumentRefused want (spell (items doc) ++ more) at reason
     → (more ≢ []) × (at ≡ length (spell (items doc))) × (reason ≡ Trailing)
 
 -- a wanted document has fewer than 2^41 bytes

@@ -63,7 +63,7 @@ StandsFor want front tail reasons.Truncated =
     ⊎ ((kind : Kind) × ExpectsField want front kind × IsOpenRun tail)
 
 -- no wanted document spells the bytes; the place is the end of their longest front of whole items
-pub record IsRefused (want : Want) (bytes : List ℕ) (at : ℕ) (reason : Reason) : Type 0 where
+pub record IsDocumentRefused (want : Want) (bytes : List ℕ) (at : ℕ) (reason : Reason) : Type 0 where
   pub none : (doc : Doc) → IsWanted want doc → Spells doc bytes → ⊥
   pub front : List Item
   pub tail : List ℕ

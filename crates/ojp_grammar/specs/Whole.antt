@@ -8,7 +8,7 @@ use Rattle.ojp_grammar.specs.declared.refusals.Reason.TheVariants.{Trailing}
 use Rattle.ojp_grammar.specs.declared.refusals.WholeRefused.{WholeRefused}
 use Rattle.ojp_grammar.specs.declared.refusals.WholeRefused.TheVariants.{At, NoMemory}
 use Rattle.ojp_grammar.specs.Documents.{IsWanted, Spells}
-use Rattle.ojp_grammar.specs.Places.{IsRefused}
+use Rattle.ojp_grammar.specs.Places.{IsDocumentRefused}
 
 -- the bytes spell a wanted document
 abbrev pub IsWhole : Want → List ℕ → Type 0
@@ -16,7 +16,7 @@ IsWhole want bytes = (doc : Doc) × IsWanted want doc × Spells doc bytes
 
 -- the refusal has its place and its reason; want of memory is free
 abbrev pub IsWholeRefused : Want → List ℕ → WholeRefused → Type 0
-IsWholeRefused want bytes (At refused) = IsRefused want bytes refused.at refused.reason
+IsWholeRefused want bytes (At refused) = IsDocumentRefused want bytes refused.at refused.reason
 IsWholeRefused want bytes NoMemory = Unit {0}
 
 -- the run stopped for the reason, or bytes stand behind a whole document

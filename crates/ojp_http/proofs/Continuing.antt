@@ -9,7 +9,7 @@ use Rattle.ojp_http.specs.declared.refusal.Frame.{Frame}
 use Rattle.ojp_http.specs.declared.refusal.Frame.TheVariants.{Counted, Chunked, Refused}
 use Rattle.ojp_http.specs.Verdicts.{Verdict, whole, refused, cut, after}
 use Rattle.ojp_http.specs.Heads.{Begins, found as head_found, malformed as head_malformed, full as head_full, begun as head_begun}
-use Rattle.ojp_http.specs.Bodies.{Ends, Takes, taken as takes_all, short as takes_short, EndsChunk, ended as chunk_ended, begun as chunk_begun, other as chunk_other, Trailer, ReadsTrailer, Sized, last as size_last, chunk as size_chunk, over as size_over, room_after, Frames, Replies, ReadsLine, line as line_reads, wrong as line_wrong, long as line_long, unended as line_unended, ReadsLines}
+use Rattle.ojp_http.specs.Bodies.{EndsHere, Takes, taken as takes_all, short as takes_short, EndsChunk, ended as chunk_ended, begun as chunk_begun, other as chunk_other, Trailer, ReadsTrailer, Sized, last as size_last, chunk as size_chunk, over as size_over, room_after, Frames, Replies, ReadsLine, line as line_reads, wrong as line_wrong, long as line_long, unended as line_unended, ReadsLines}
 use Rattle.ojp_http.specs.Fields.{reply_frame}
 use Rattle.ojp_http.specs.Continued.{BodyGoesOn}
 use Rattle.ojp_http.proofs.Headed.{Grammar, two_fronts}
@@ -40,7 +40,7 @@ after_cut front (cut g) got e = let x : got ≡ front ++ g = cc in (g, refl, x)
 join : (front g b got body tail : List ℕ) → got ≡ front ++ g → body ≡ front ++ b → b ≡ g ++ tail → body ≡ got ++ tail
 join front g b got body tail x y z = y ∙ ap (λ (l : List ℕ). front ++ l) z ∙ sym (append_assoc front g tail) ∙ ap (λ (l : List ℕ). l ++ tail) (sym x)
 
-ends_go_on : GoesOn Ends Ends
+ends_go_on : GoesOn EndsHere EndsHere
 ends_go_on bytes more got body rest x y = absurd (cut_whole x)
 
 takes_go_on : (n : ℕ) (K L : List ℕ → Verdict → Type 0) → GoesOn K L → GoesOn (Takes n K) (Takes n L)
@@ -101,7 +101,7 @@ trailer_goes_on : GoesOn Trailer Trailer
 trailer_goes_on =
     begins_goes_on ReadsTrailer (λ t. t.0) 65 refusals.Chunk refusals.Chunk 0 trailers
     (λ bytes t u r q x y. let same = section_unique bytes t.0 u.0 t.1 u.1 r q x y in ((λ i. (same.0 i, same.1 i)), same.2))
-    (λ t. Ends) (λ t. ends_go_on)
+    (λ t. EndsHere) (λ t. ends_go_on)
 
 sized_goes_on : (K L : Option ℕ → List ℕ → Verdict → Type 0) → ((room : Option ℕ) → GoesOn (K room) (L room)) → (room : Option ℕ) (size : ℕ) → GoesOn (Sized K room size) (Sized L room size)
 sized_goes_on K L go room size bytes more got body rest (size_last e t) (size_last f u) = trailer_goes_on bytes more got body rest t u
@@ -121,7 +121,7 @@ lines_go_on (suc n) (suc m) room bytes more got body rest x y =
     line_goes_on (Sized (ReadsLines n) room) (Sized (ReadsLines m) room) (sized_goes_on (ReadsLines n) (ReadsLines m) (λ left. lines_go_on n m left) room) bytes more got body rest x y
 
 frames_go_on : (room : Option ℕ) (frame : Frame) → GoesOn (Frames room frame) (Frames room frame)
-frames_go_on room (Counted n) = takes_go_on n Ends Ends ends_go_on
+frames_go_on room (Counted n) = takes_go_on n EndsHere EndsHere ends_go_on
 frames_go_on room Chunked = λ bytes more got body rest x y. lines_go_on x.lines y.lines room bytes more got body rest x.reads y.reads
 frames_go_on room (Refused e) = λ bytes more got body rest x y. absurd (cut_refused x)
 

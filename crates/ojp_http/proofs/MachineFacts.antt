@@ -13,7 +13,7 @@ use Rattle.ojp_http.specs.declared.machine.Place.TheVariants.{Head, ReplyHead, C
 use Rattle.ojp_http.specs.declared.machine.Framing.{Framing}
 use Rattle.ojp_http.specs.Verdicts.{Verdict, whole, refused, cut, after}
 use Rattle.ojp_http.specs.Heads.{HasNoHead, IsFull, IsFullAt}
-use Rattle.ojp_http.specs.Bodies.{Ends, Takes, EndsChunk, Chunks, Trailer, Sized, room_after, IsAbove, has_no_feed, ReadsTrailer, Asks, Replies}
+use Rattle.ojp_http.specs.Bodies.{EndsHere, Takes, EndsChunk, Chunks, Trailer, Sized, room_after, IsAbove, has_no_feed, ReadsTrailer, Asks, Replies}
 use Rattle.ojp_http.specs.Machine.{content_left, chunk_left, chunk_start, ReadsAt, IsOpenAt, work_at, room_at, SpendsBy, FrameSpends, SizedSpends, IsCountedBy, IsBounded, FollowsFrame, Begins, IsNewRequest, IsNewReply}
 use Rattle.ojp_http.specs.Scanned.{no_lines, scan_from}
 use Rattle.ojp_http.specs.declared.scan.Scan.{Scan}
@@ -55,9 +55,9 @@ by_size : (n : ℕ) (P : Bool → Type 0) → (n ≡ 0 → P true) → (0 < n �
 by_size zero P z s = z refl
 by_size (suc n) P z s = subst P (sym (eqb-suc-zero n)) (s (omega arith))
 
-pub content_reads : (n : ℕ) (room : Option ℕ) (kept rest : List ℕ) (v : Verdict) → ReadsAt (content_left n) room kept rest v → Takes n Ends rest v
+pub content_reads : (n : ℕ) (room : Option ℕ) (kept rest : List ℕ) (v : Verdict) → ReadsAt (content_left n) room kept rest v → Takes n EndsHere rest v
 content_reads n room kept rest v =
-    by_size n (λ t. ReadsAt (if t then Whole else Content n) room kept rest v → Takes n Ends rest v)
+    by_size n (λ t. ReadsAt (if t then Whole else Content n) room kept rest v → Takes n EndsHere rest v)
     (λ e r. Takes.taken [] rest (whole [] rest) refl (sym e) refl r)
     (λ pos r. r)
 

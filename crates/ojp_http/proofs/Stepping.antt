@@ -14,7 +14,7 @@ use Rattle.std.proofs.lemmas.Bool.Decides.{nat_tests}
 use Rattle.std.proofs.lemmas.List.Folds.{list_all-append}
 use Rattle.ojp_http.specs.Verdicts.{Verdict, whole, refused, cut, after}
 use Rattle.ojp_http.specs.Heads.{HasHead, HasNoHead, IsFullAt, Begins, found, malformed, full}
-use Rattle.ojp_http.specs.Bodies.{Ends, Takes, taken as takes_all, short as takes_short, EndsChunk, ended as chunk_ended, begun as chunk_begun, other as chunk_other, Chunks, Trailer, ReadsTrailer, Sized, last as size_last, chunk as size_chunk, over as size_over, room_after, Frames, has_no_feed, Asks, Replies, ReadsLine, ReadsLines}
+use Rattle.ojp_http.specs.Bodies.{EndsHere, Takes, taken as takes_all, short as takes_short, EndsChunk, ended as chunk_ended, begun as chunk_begun, other as chunk_other, Chunks, Trailer, ReadsTrailer, Sized, last as size_last, chunk as size_chunk, over as size_over, room_after, Frames, has_no_feed, Asks, Replies, ReadsLine, ReadsLines}
 use Rattle.ojp_http.specs.Fields.{ask_frame, reply_frame}
 use Rattle.ojp_http.specs.Machine.{ReadsAt, Reads, IsOpenAt, IsOpen, work_at, room_at, SpendsBy, Spends, limit_at, IsCounted, FrameSpends, SizedSpends, Follows, Enters, Moves, StepsBy, Steps, Advances, content_left, chunk_left, one_of}
 use Rattle.ojp_http.specs.Outcomes.{HasGrown, Refuses}
@@ -213,7 +213,7 @@ pub trailer_found : (old new : Framing) (b : ℕ) (bytes : List ℕ) (t : List F
 trailer_found old new b bytes t a c r k counted x =
     move_at old new Trailing Whole (b ∷ []) [] a c
     (λ rest v y.
-    let m : Trailer (bytes ++ rest) v = begins_found ReadsTrailer (λ t. t.0) 65 refusals.Chunk refusals.Chunk (λ t. Ends) bytes t rest v x y in
+    let m : Trailer (bytes ++ rest) v = begins_found ReadsTrailer (λ t. t.0) 65 refusals.Chunk refusals.Chunk (λ t. EndsHere) bytes t rest v x y in
     subst (λ (w : Verdict). Trailer (old.kept.items ++ b ∷ rest) w) (sym (after-nil v)) (subst (λ (l : List ℕ). Trailer l v) (kept_rest old.kept.items bytes rest b k) m))
     tt (whole_spends old.room r)
   where
@@ -385,7 +385,7 @@ pub content_taken : (old new : Framing) (left n : ℕ) (front : List ℕ) → ol
     → length front ≡ n → n ≤ left → Moves old new front front
 content_taken old new left n front a c r l le =
     move_at old new (Content left) (content_left (left - n)) front front a c
-    (λ rest v x. takes_more left n Ends front rest v l le (content_reads (left - n) new.room new.kept.items rest v x))
+    (λ rest v x. takes_more left n EndsHere front rest v l le (content_reads (left - n) new.room new.kept.items rest v x))
     (content_open (left - n) new.kept.items new.scan)
     (subst (λ (k : ℕ). SpendsBy old.room (Content left) (length old.kept.items) new.room (content_left (left - n)) (length new.kept.items) k k) (sym l)
     (content_spends old new left n le r old.room r))

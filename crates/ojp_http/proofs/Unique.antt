@@ -13,7 +13,7 @@ use Rattle.ojp_http.specs.declared.refusal.Frame.{Frame}
 use Rattle.ojp_http.specs.declared.refusal.Frame.TheVariants.{Counted, Chunked, Refused}
 use Rattle.ojp_http.specs.Verdicts.{Verdict, whole, refused, cut, after}
 use Rattle.ojp_http.specs.Heads.{HasHead, HasNoHead, IsMalformed, IsFull, IsWithin, counted_lines, Begins, found as head_found, malformed as head_malformed, full as head_full, begun as head_begun}
-use Rattle.ojp_http.specs.Bodies.{Ends, Takes, taken as takes_all, short as takes_short, EndsChunk, ended as chunk_ended, begun as chunk_begun, other as chunk_other, Chunks, Trailer, ReadsTrailer, Sized, last as size_last, chunk as size_chunk, over as size_over, room_after, IsAbove, Frames, has_no_feed, ReadsLine, line as line_reads, wrong as line_wrong, long as line_long, unended as line_unended, ReadsLines}
+use Rattle.ojp_http.specs.Bodies.{EndsHere, Takes, taken as takes_all, short as takes_short, EndsChunk, ended as chunk_ended, begun as chunk_begun, other as chunk_other, Chunks, Trailer, ReadsTrailer, Sized, last as size_last, chunk as size_chunk, over as size_over, room_after, IsAbove, Frames, has_no_feed, ReadsLine, line as line_reads, wrong as line_wrong, long as line_long, unended as line_unended, ReadsLines}
 use Rattle.ojp_http.proofs.Headed.{Grammar, front_cases, two_fronts}
 use Rattle.ojp_http.proofs.Grammars.{trailers, no_feed, no_feed_append}
 use Rattle.ojp_http.proofs.ChunkFacts.{line_feeds}
@@ -66,7 +66,7 @@ takes_agree n K L agree bytes v w (takes_all f r x is l k q) (takes_short lt p) 
 takes_agree n K L agree bytes v w (takes_short lt q) (takes_all g s y js m j p) = absurd (omega (arith, lt, ap length js, length-append g s, m))
 takes_agree n K L agree bytes v w (takes_short lt q) (takes_short mt p) = inl (q ∙ sym p)
 
-ends_agree : Agree Ends Ends
+ends_agree : Agree EndsHere EndsHere
 ends_agree bytes v w x y = inl (x ∙ sym y)
 
 longer : (bytes more rest : List ℕ) → bytes ++ more ≡ 13 ∷ 10 ∷ [] → 0 < length more → bytes ≡ 13 ∷ 10 ∷ rest → ⊥
@@ -217,7 +217,7 @@ empty_trailer : Trailer (13 ∷ 10 ∷ []) (whole [] [])
 empty_trailer =
     head_found ([], crlf) [] (record { front = 13 ∷ 10 ∷ []; is = refl; reads = (λ k d lt. absurd (omega (arith, lt)), refl); few = omega arith; within = short_within }) refl
 
-trailer_pair : (bytes : List ℕ) (v w : Verdict) → Pair ReadsTrailer (λ t. t.0) 65 refusals.Chunk refusals.Chunk (λ t. Ends) bytes v w → Differ Trailer bytes v w
+trailer_pair : (bytes : List ℕ) (v w : Verdict) → Pair ReadsTrailer (λ t. t.0) 65 refusals.Chunk refusals.Chunk (λ t. EndsHere) bytes v w → Differ Trailer bytes v w
 trailer_pair bytes v w (headed h r x k j) = inl (k ∙ sym j)
 trailer_pair bytes v w (agreed e) = inl e
 trailer_pair bytes v w (large_too n m l two) = inl (elim two [ inl t ↦ t.0 ∙ sym t.1 | inr t ↦ t.0 ∙ sym t.1 ])
@@ -225,7 +225,7 @@ trailer_pair bytes v w (cut_too n m l two) = inr ([], record { front = []; trail
 
 trailer_agree : Agree Trailer Trailer
 trailer_agree bytes v w x y =
-    trailer_pair bytes v w (pairs ReadsTrailer (λ t. t.0) 65 refusals.Chunk refusals.Chunk (λ t. Ends) 0 trailers
+    trailer_pair bytes v w (pairs ReadsTrailer (λ t. t.0) 65 refusals.Chunk refusals.Chunk (λ t. EndsHere) 0 trailers
     (λ bytes t u r q x y. let same = section_unique bytes t.0 u.0 t.1 u.1 r q x y in ((λ i. (same.0 i, same.1 i)), same.2)) bytes v w x y)
 
 -- ---- chunks
@@ -261,6 +261,6 @@ chunks_agree room bytes v w x y =
     (lines_agree x.lines y.lines room bytes v w x.reads y.reads)
 
 pub frames_agree : (room : Option ℕ) (frame : Frame) → Agree (Frames room frame) (Frames room frame)
-frames_agree room (Counted n) = takes_agree n Ends Ends ends_agree
+frames_agree room (Counted n) = takes_agree n EndsHere EndsHere ends_agree
 frames_agree room Chunked = chunks_agree room
 frames_agree room (Refused e) = λ bytes v w x y. inl (x ∙ sym y)

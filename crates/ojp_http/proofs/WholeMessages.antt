@@ -10,7 +10,7 @@ use Rattle.ojp_http.specs.declared.refusal.Frame.{Frame}
 use Rattle.ojp_http.specs.declared.refusal.Frame.TheVariants.{Counted, Chunked, Refused}
 use Rattle.ojp_http.specs.Verdicts.{Verdict, whole, refused, cut, after}
 use Rattle.ojp_http.specs.Heads.{Begins, found as head_found, malformed as head_malformed, full as head_full, begun as head_begun}
-use Rattle.ojp_http.specs.Bodies.{Ends, Takes, taken as takes_all, short as takes_short, EndsChunk, ended as chunk_ended, begun as chunk_begun, other as chunk_other, Trailer, ReadsTrailer, Sized, last as size_last, chunk as size_chunk, over as size_over, room_after, Frames, Replies, Asks, ReadsLine, line as line_reads, wrong as line_wrong, long as line_long, unended as line_unended, ReadsLines}
+use Rattle.ojp_http.specs.Bodies.{EndsHere, Takes, taken as takes_all, short as takes_short, EndsChunk, ended as chunk_ended, begun as chunk_begun, other as chunk_other, Trailer, ReadsTrailer, Sized, last as size_last, chunk as size_chunk, over as size_over, room_after, Frames, Replies, Asks, ReadsLine, line as line_reads, wrong as line_wrong, long as line_long, unended as line_unended, ReadsLines}
 use Rattle.ojp_http.specs.Fields.{reply_frame, ask_frame}
 use Rattle.ojp_http.specs.Asking.{Tells}
 use Rattle.ojp_http.specs.Laws.{AreTwo, AreAllowed, one, head_or_large, head_or_cut, chunk_or_cut, OneOutcome, OneBody, NoReplyBeginsAnother}
@@ -106,7 +106,7 @@ Extends K = (bytes more body rest : List ℕ) → K bytes (whole body rest) → 
 pub behind : (bytes front rest more : List ℕ) → bytes ≡ front ++ rest → bytes ++ more ≡ front ++ (rest ++ more)
 behind bytes front rest more is = ap (λ (l : List ℕ). l ++ more) is ∙ append_assoc front rest more
 
-ends_extend : Extends Ends
+ends_extend : Extends EndsHere
 ends_extend bytes more body rest x =
     let b : body ≡ [] = cc in
     let r : rest ≡ bytes = cc in
@@ -146,7 +146,7 @@ module _ {H : Type 0} (R : List ℕ → H → List ℕ → Type 0) (fields : H �
   begins_extend K extend bytes more body rest (head_begun n m q) = absurd (not_cut q)
 
 trailer_extend : Extends Trailer
-trailer_extend = begins_extend ReadsTrailer (λ t. t.0) 65 refusals.Chunk refusals.Chunk (λ t. Ends) (λ t. ends_extend)
+trailer_extend = begins_extend ReadsTrailer (λ t. t.0) 65 refusals.Chunk refusals.Chunk (λ t. EndsHere) (λ t. ends_extend)
 
 sized_extend : (K : Option ℕ → List ℕ → Verdict → Type 0) → ((room : Option ℕ) → Extends (K room)) → (room : Option ℕ) (size : ℕ) → Extends (Sized K room size)
 sized_extend K extend room size bytes more body rest (size_last e t) = size_last e (trailer_extend bytes more body rest t)
@@ -161,7 +161,7 @@ lines_extend (suc n) room bytes more body rest x =
     line_extend (Sized (ReadsLines n) room) (sized_extend (ReadsLines n) (λ left. lines_extend n left) room) bytes more body rest x
 
 frames_extend : (room : Option ℕ) (frame : Frame) → Extends (Frames room frame)
-frames_extend room (Counted n) = takes_extend n Ends ends_extend
+frames_extend room (Counted n) = takes_extend n EndsHere ends_extend
 frames_extend room Chunked = λ bytes more body rest x. record { lines = x.lines; reads = lines_extend x.lines room bytes more body rest x.reads }
 frames_extend room (Refused e) = λ bytes more body rest x. absurd (not_refused x)
 

@@ -10,8 +10,8 @@ use Rattle.ojp_http.specs.Heads.{Begins}
 use Rattle.ojp_http.specs.Fields.{ask_frame, reply_frame}
 
 -- the message ends here
-abbrev pub Ends : List ℕ → Verdict → Type 0
-Ends bytes v = v ≡ whole [] bytes
+abbrev pub EndsHere : List ℕ → Verdict → Type 0
+EndsHere bytes v = v ≡ whole [] bytes
 
 -- n bytes of the body
 pub data Takes (n : ℕ) (K : List ℕ → Verdict → Type 0) (bytes : List ℕ) (v : Verdict) : Type 0 where
@@ -41,7 +41,7 @@ abbrev pub ReadsTrailer : List ℕ → List Field × LineEnd → List ℕ → Ty
 ReadsTrailer bytes t rest = ReadsSection bytes t.0 t.1 rest
 
 abbrev pub Trailer : List ℕ → Verdict → Type 0
-Trailer bytes v = Begins ReadsTrailer (λ t. t.0) 65 refusals.Chunk refusals.Chunk (λ t. Ends) bytes v
+Trailer bytes v = Begins ReadsTrailer (λ t. t.0) 65 refusals.Chunk refusals.Chunk (λ t. EndsHere) bytes v
 
 -- the chunks to come may not sum up to this
 abbrev pub IsAbove : Option ℕ → ℕ → Type 0
@@ -71,7 +71,7 @@ pub record Chunks (room : Option ℕ) (bytes : List ℕ) (v : Verdict) : Type 0 
 
 -- a body in its frame
 abbrev pub Frames : Option ℕ → Frame → List ℕ → Verdict → Type 0
-Frames room (Counted n) bytes v = Takes n Ends bytes v
+Frames room (Counted n) bytes v = Takes n EndsHere bytes v
 Frames room Chunked bytes v = Chunks room bytes v
 Frames room (Refused e) bytes v = v ≡ refused e
 

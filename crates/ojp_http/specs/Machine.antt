@@ -14,7 +14,7 @@ use Rattle.ojp_http.specs.declared.scan.Scan.{Scan}
 use Rattle.ojp_http.specs.Verdicts.{Verdict, refused, after}
 use Rattle.ojp_http.specs.Heads.{HasNoHead, IsFull}
 use Rattle.ojp_http.specs.Scanned.{no_lines, scan_from}
-use Rattle.ojp_http.specs.Bodies.{Ends, Takes, EndsChunk, Chunks, Trailer, ReadsTrailer, Asks, Replies, Sized, has_no_feed, Frames}
+use Rattle.ojp_http.specs.Bodies.{EndsHere, Takes, EndsChunk, Chunks, Trailer, ReadsTrailer, Asks, Replies, Sized, has_no_feed, Frames}
 
 -- the place in a body, or in a chunk, that lacks so many bytes
 abbrev pub content_left : ℕ → Place
@@ -31,13 +31,13 @@ chunk_start size = if size == 0 then Trailing else Data size
 abbrev pub ReadsAt : Place → Option ℕ → List ℕ → List ℕ → Verdict → Type 0
 ReadsAt Head room kept rest v = Asks (kept ++ rest) v
 ReadsAt ReplyHead room kept rest v = Replies (kept ++ rest) v
-ReadsAt (Content left) room kept rest v = Takes left Ends rest v
+ReadsAt (Content left) room kept rest v = Takes left EndsHere rest v
 ReadsAt Line room kept rest v = Chunks room (kept ++ rest) v
 ReadsAt (Data left) room kept rest v = Takes left (EndsChunk (Chunks room)) rest v
 ReadsAt (Return false) room kept rest v = EndsChunk (Chunks room) rest v
 ReadsAt (Return true) room kept rest v = EndsChunk (Chunks room) (13 ∷ rest) v
 ReadsAt Trailing room kept rest v = Trailer (kept ++ rest) v
-ReadsAt Whole room kept rest v = Ends rest v
+ReadsAt Whole room kept rest v = EndsHere rest v
 
 abbrev pub Reads : Framing → List ℕ → Verdict → Type 0
 Reads f rest v = ReadsAt f.place f.room f.kept.items rest v

@@ -69,7 +69,7 @@ abbrev pub BeginsNoReply : List ℕ → Type 0
 BeginsNoReply bytes = (more body : List ℕ) → ¬ (HttpReply (bytes ++ more) body)
 
 -- the bytes decide a refusal, whatever follows, and no reply begins with them
-pub record IsRefused (bytes : List ℕ) : Type 0 where
+pub record IsReplyRefused (bytes : List ℕ) : Type 0 where
   pub refusal : Refusal
   pub none : BeginsNoReply bytes
   pub decided : (rest : List ℕ) → Replies (bytes ++ rest) (refused refusal)
@@ -96,7 +96,7 @@ pub record Continues (new : ReplyView) (bytes got piece before after : List ℕ)
 -- the bytes decide a refusal, unless memory ran out; what came of the body stands behind what was there
 pub record Stops (new : ReplyView) (bytes piece before after : List ℕ) (e : ReplyRefused) : Type 0 where
   pub over : new.stage ≡ Over e
-  pub decided : e ≡ refused_as.Bad → IsRefused (bytes ++ piece)
+  pub decided : e ≡ refused_as.Bad → IsReplyRefused (bytes ++ piece)
   pub gains : Gains before after
 
 -- a reply goes on, or it ends within the piece, or it stops

@@ -7,7 +7,7 @@ use Rattle.ojp_outside.specs.Seen.{StoreView}
 use Rattle.ojp_outside.specs.declared.store.TheConstants.{FILE_LIMIT}
 use Rattle.ojp_values.specs.Texts.{Text, same, text_lt}
 use Rattle.ojp_timetable.specs.Tables.{Timetable}
-use Rattle.ojp_timetable.specs.TableText.{IsText, IsRefused}
+use Rattle.ojp_timetable.specs.TableText.{IsText, IsTextRefused}
 use Rattle.ojp_timetable.specs.declared.lines.TableReason.{TableReason}
 use Rattle.ojp_links.specs.Seen.{AreDistinct, View, region_of_table}
 use Rattle.ojp_links_mem.specs.Memory.{IsNewOver, IsFresh, MemView, Renumbers, links_of}
@@ -51,7 +51,7 @@ pub record IsRefusedFile (file : Text) (old new : StoreView) (line : ℕ) (reaso
   pub bytes : Text
   pub held : IsContents old.contents file bytes
   pub within : length bytes ≤ FILE_LIMIT
-  pub refused : IsRefused bytes line reason
+  pub refused : IsTextRefused bytes line reason
   pub same : new ≡ old
 
 -- how the reading of a timetable's file ends

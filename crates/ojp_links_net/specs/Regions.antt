@@ -5,7 +5,7 @@ use Rattle.ojp_links.specs.Seen.{Station, code_in, code_of_station}
 use Rattle.ojp_links.specs.declared.links.More.{More}
 use Rattle.ojp_links.specs.declared.links.More.TheVariants as mores
 use Rattle.ojp_links_net.specs.Counting.{CountsOne}
-use Rattle.ojp_links_net.specs.declared.regions.Place.{Place}
+use Rattle.ojp_links_net.specs.declared.regions.Endpoint.{Endpoint}
 
 -- the regions by their numbers, and the counts of each
 pub record RegionsView : Type 0 where
@@ -21,7 +21,7 @@ abbrev pub station_at : Text → Text → ℕ → Station
 station_at name at door = record { code = name; address = Some (record { host = at; port = door }) }
 
 -- what is seen of a region
-abbrev pub station_of : Place → Station
+abbrev pub station_of : Endpoint → Station
 station_of place = station_at place.code (string_bytes place.host) place.port
 
 -- the count of the region; 0 where there is no region

@@ -14,7 +14,7 @@ use std::net::Net;
 
 /// A region and where it listens.
 #[derive(Drop)]
-pub(crate) struct Place {
+pub(crate) struct Endpoint {
     pub code: Code,
     pub host: String,
     pub port: u16,
@@ -24,7 +24,7 @@ pub(crate) struct Place {
 #[derive(Drop)]
 pub(crate) struct Regions {
     alloc: Global,
-    places: Vec<Place>,
+    places: Vec<Endpoint>,
     faults: Vec<u64>,
     rejections: Vec<u64>,
 }
@@ -53,7 +53,7 @@ fn count_at(counts: &mut Vec<u64>, at: usize)
 
 /// Makes room for one region more.
 fn make_room(
-    places: &mut Vec<Place>,
+    places: &mut Vec<Endpoint>,
     faults: &mut Vec<u64>,
     rejections: &mut Vec<u64>,
 ) -> Result<(), NoMemory>
@@ -128,7 +128,7 @@ impl Regions {
         let Ok(()) = make_room(&mut self.places, &mut self.faults, &mut self.rejections) else {
             return Err(NoMemory);
         };
-        self.places.push_reserved(Place { code, host, port });
+        self.places.push_reserved(Endpoint { code, host, port });
         self.faults.push_reserved(0);
         self.rejections.push_reserved(0);
         Ok(())

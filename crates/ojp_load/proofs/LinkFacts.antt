@@ -7,7 +7,7 @@ use Rattle.ojp_values.specs.Texts.{Text, same, text_lt}
 use Rattle.ojp_timetable.specs.Tables.{Timetable}
 use Rattle.ojp_timetable.proofs.Orders.{text_order}
 use Rattle.ojp_exchange.specs.Book.{Book}
-use Rattle.ojp_exchange.specs.Joins.{IsRefused}
+use Rattle.ojp_exchange.specs.Joins.{JoinFails}
 use Rattle.ojp_exchange.proofs.MadeFacts.{among_back, among_moved}
 use Rattle.ojp_links.specs.Seen.{Fixed, IsSound, NoneLive, Station, View, code_of_station, codes_of, region_of_table}
 use Rattle.ojp_links.specs.Calls.{Keeps}
@@ -24,7 +24,7 @@ use Rattle.ojp_links_mem.specs.Regions.{count_at, fault_count, station_of}
 use Rattle.ojp_links_mem.specs.declared.pending.Pending.{Pending}
 use Rattle.ojp_links_mem.specs.declared.regions.Region.{Region}
 use Rattle.slab.specs.Slab.{Slab}
-use Rattle.ojp_load.specs.Ready.{IsOpen, IsReady, MakeBook}
+use Rattle.ojp_load.specs.Ready.{AreLinksOpen, IsReady, MakeBook}
 
 -- ---- links are made
 
@@ -46,10 +46,10 @@ same_tables given rising p first second =
     alike (λ (x : Timetable) (y : Timetable). text_lt x.region y.region) (λ (x : Timetable) (y : Timetable). same x.region y.region) (text_order (λ (t : Timetable). t.region)) rising given
     (rise_of region_of_table rising second) (rise_of region_of_table given first) (λ x a. among_back given rising x p a) (λ x a. among_moved given rising x p a)
 
-pub made : (given : List Timetable) (m : MemView) → IsRising text_lt (map region_of_table given) → IsNewOver given 0 0 m → IsOpen given (links_of m)
+pub made : (given : List Timetable) (m : MemView) → IsRising text_lt (map region_of_table given) → IsNewOver given 0 0 m → AreLinksOpen given (links_of m)
 made given m rise new =
     let is = same_tables given m.tables new.over.rising.just_these rise new.over.rising.codes_rise in
-    subst (λ (tables : List Timetable). IsOpen tables (links_of m)) is (record {
+    subst (λ (tables : List Timetable). AreLinksOpen tables (links_of m)) is (record {
       none_live = new.over.fresh.none_live;
       tells = record {
         servers = new.servers_are;
@@ -61,14 +61,14 @@ made given m rise new =
 
 -- ---- a call leaves them open
 
-module _ (v w : View) (before : IsSound v) (after : IsSound w) (tables : List Timetable) (is_open : IsOpen tables v) (fixed : w.fixed ≡ v.fixed) (calm : NoRejectionRose v w) where
+module _ (v w : View) (before : IsSound v) (after : IsSound w) (tables : List Timetable) (is_open : AreLinksOpen tables v) (fixed : w.fixed ≡ v.fixed) (calm : NoRejectionRose v w) where
   sure_after : w.fixed.is_sure ≡ true
   sure_after = ap (λ (f : Fixed). f.is_sure) fixed ∙ is_open.sure
 
   pub no_faults : (region : ℕ) → w.faults region ≡ 0
   no_faults region = after.sure sure_after region ∙ (calm region ∙ (sym (before.sure is_open.sure region) ∙ is_open.no_faults region))
 
-  pub still : NoneLive w → IsOpen tables w
+  pub still : NoneLive w → AreLinksOpen tables w
   still none = record {
     none_live = none;
     tells = record {
@@ -90,7 +90,7 @@ same_regions book old new e h = subst (λ (f : Fixed). (code : Text) → Among c
 
 -- ---- the book is learned
 
-module _ (v w : View) (before : IsSound v) (after : IsSound w) (tables : List Timetable) (is_open : IsOpen tables v) (keeps : Keeps v w) (none : NoneLive w) (calm : RejectsNoneTold v w) where
+module _ (v w : View) (before : IsSound v) (after : IsSound w) (tables : List Timetable) (is_open : AreLinksOpen tables v) (keeps : Keeps v w) (none : NoneLive w) (calm : RejectsNoneTold v w) where
   pub learned : (book : Book) → IsLearned v book → IsReady tables book w
   learned book l = record {
     is_open = still v w before after tables is_open keeps.fixed (calm tables is_open.tells) none;
@@ -103,7 +103,7 @@ module _ (v w : View) (before : IsSound v) (after : IsSound w) (tables : List Ti
       let was = is_open.no_faults f.region in
       let is = no_faults v w before after tables is_open keeps.fixed (calm tables is_open.tells) f.region in
       absurd (omega (arith, was, is, f.rose))
-  only_memory makes (refusals.Book reason) r = absurd (makes reason (subst (λ ls. IsRefused ls reason) (r.heard.told tables is_open.tells) r.refused) r.some)
+  only_memory makes (refusals.Book reason) r = absurd (makes reason (subst (λ ls. JoinFails ls reason) (r.heard.told tables is_open.tells) r.refused) r.some)
   only_memory makes refusals.NoMemory h = refl
 
 -- ---- a connection is served

@@ -2,10 +2,10 @@
 use Rattle.std.specs.Prelude.{◌≡◌, ◌≢◌, ℕ, true, List, map}
 use Rattle.ojp_values.specs.Texts.{Text}
 use Rattle.ojp_timetable.specs.Tables.{Timetable}
-use Rattle.ojp_timetable.specs.TableText.{IsRefused as IsTextRefused}
+use Rattle.ojp_timetable.specs.TableText.{JoinFails as IsTextRefused}
 use Rattle.ojp_timetable.specs.declared.lines.TableReason.{TableReason}
 use Rattle.ojp_exchange.specs.Book.{Book, points_of}
-use Rattle.ojp_exchange.specs.Joins.{IsRefused}
+use Rattle.ojp_exchange.specs.Joins.{JoinFails}
 use Rattle.ojp_exchange.specs.declared.refusals.BookRefused.{BookRefused}
 use Rattle.ojp_exchange.specs.declared.refusals.BookRefused.TheVariants as book_refusals
 use Rattle.ojp_links.specs.Seen.{NoneLive, TellsTables, View}
@@ -20,14 +20,14 @@ IsAccepted bytes = (line : ℕ) (reason : TableReason) → IsTextRefused bytes l
 
 -- the timetables are refused as regions of a book for no reason but want of memory
 abbrev pub MakeBook : List Timetable → Type 0
-MakeBook tables = (reason : BookRefused) → IsRefused (map points_of tables) reason → reason ≢ book_refusals.NoMemory → ⊥
+MakeBook tables = (reason : BookRefused) → JoinFails (map points_of tables) reason → reason ≢ book_refusals.NoMemory → ⊥
 
 -- the order is one, and the ask is for a trip between two different known stops
 abbrev pub IsGoodAsk : List Timetable → LoadAsk → Type 0
 IsGoodAsk tables load = IsGood tables load
 
 -- nothing is live, these timetables are told, no region failed yet, and none will but by a rejection
-pub record IsOpen (tables : List Timetable) (v : View) : Type 0 where
+pub record AreLinksOpen (tables : List Timetable) (v : View) : Type 0 where
   pub none_live : NoneLive v
   pub tells : TellsTables v tables
   pub sure : v.fixed.is_sure ≡ true
@@ -35,6 +35,6 @@ pub record IsOpen (tables : List Timetable) (v : View) : Type 0 where
 
 -- the links are open over the timetables, and the book is theirs
 pub record IsReady (tables : List Timetable) (book : Book) (v : View) : Type 0 where
-  pub is_open : IsOpen tables v
+  pub is_open : AreLinksOpen tables v
   pub theirs : AreTablesOf tables book
   pub regions : HasRegions book v

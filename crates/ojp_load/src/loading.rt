@@ -1,7 +1,7 @@
 //! The command itself.
 
 ghost use Rattle.std.specs.Prelude.{IfOk};
-ghost use Rattle.ojp_steps.specs.Endings.{Ends};
+ghost use Rattle.ojp_steps.specs.Endings.{HasEnding};
 ghost use Rattle.ojp_steps.specs.Lent.{lent};
 ghost use Rattle.ojp_load.specs.Loads.{IsSummary, LoadFails, Loaded};
 
@@ -24,7 +24,7 @@ use std::alloc::Global;
 ///
 /// `Memory` where memory ran out, `Output` where a write failed.
 pub fn load<O: Sink>(alloc: Global, number: u64, output: &mut O) -> Result<(), Failure<'static>>
-    ensures { let lent_output = lent O.seen output.old output.new in Ends (Loaded number lent_output) (LoadFails number lent_output) result }
+    ensures { let lent_output = lent O.seen output.old output.new in HasEnding (Loaded number lent_output) (LoadFails number lent_output) result }
 {
     let summary = match summarize(alloc, number) {
         Ok(summary) => summary,

@@ -6,7 +6,7 @@ ghost use Rattle.ojp_values.specs.Texts.{text_lt};
 ghost use Rattle.ojp_timetable.specs.Tables.{Timetable};
 ghost use Rattle.ojp_links.specs.Seen.{region_of_table};
 ghost use Rattle.ojp_links_mem.specs.Memory.{links_of};
-ghost use Rattle.ojp_load.specs.Ready.{IsOpen, IsReady, MakeBook};
+ghost use Rattle.ojp_load.specs.Ready.{AreLinksOpen, IsReady, MakeBook};
 
 use ojp_exchange::Book;
 use ojp_gateway::{LearnRefused, learn_paced};
@@ -19,15 +19,15 @@ use std::alloc::Global;
 /// Links to the regions of these timetables, which rise by code.
 pub(crate) fn open(alloc: Global, tables: Vec<Timetable>) -> Result<MemLinks, NoMemory>
     requires { IsRising text_lt (map region_of_table tables.items) }
-    ensures { IfOk result (λ links. IsOpen tables.items (links_of links)) }
+    ensures { IfOk result (λ links. AreLinksOpen tables.items (links_of links)) }
 {
     MemLinks::new(alloc, tables, 0, 0)
 }
 
 /// Learns the book of the regions.
 pub(crate) fn learn(alloc: Global, links: &mut MemLinks) -> Result<Book, NoMemory>
-    requires { (tables : List Timetable) × MakeBook tables × IsOpen tables (links_of links.old) }
-    ensures { (tables : List Timetable) → IsOpen tables (links_of links.old) → IfOk result (λ book. IsReady tables book (links_of links.new)) }
+    requires { (tables : List Timetable) × MakeBook tables × AreLinksOpen tables (links_of links.old) }
+    ensures { (tables : List Timetable) → AreLinksOpen tables (links_of links.old) → IfOk result (λ book. IsReady tables book (links_of links.new)) }
 {
     links.is_sound();
     let learned = learn_paced(alloc, links);

@@ -12,7 +12,7 @@ use Rattle.ojp_zones.specs.declared.zone.Zone.{Zone}
 use Rattle.ojp_timetable.specs.Contents.{Contents, timetable_of}
 use Rattle.ojp_timetable.specs.Runs.{AreDays}
 use Rattle.ojp_timetable.specs.Said.{is_closed}
-use Rattle.ojp_timetable.specs.TableText.{ArePassed, IsRefused, above_of, lines_of}
+use Rattle.ojp_timetable.specs.TableText.{ArePassed, IsTextRefused, above_of, lines_of}
 use Rattle.ojp_timetable.specs.Tables.{Service}
 use Rattle.ojp_timetable.specs.declared.above.TheConstants.{BYTES}
 use Rattle.ojp_timetable.specs.declared.lines.Open.TheVariants.{Nothing}
@@ -78,7 +78,7 @@ lines_are z region low high =
     ap lines_of (file_text utc z region)
     ∙ lines_back (map (spelled zone) (all_lines utc z region)) (ends_below zone (region_code region) utc (entries z region) (region_is_code region) zone_word (taken z region low high).fit)
 
-accepted : (z region : ℕ) → 1 ≤ region → region ≤ 12 → (line : ℕ) (reason : TableReason) → IsRefused (file z region) line reason → ⊥
+accepted : (z region : ℕ) → 1 ≤ region → region ≤ 12 → (line : ℕ) (reason : TableReason) → IsTextRefused (file z region) line reason → ⊥
 accepted z region low high line reason refused =
     let passed = subst (λ (ts : List Text). ArePassed ts (length ts + 1)) (sym (lines_are z region low high)) (read z region low high).passed in
     let none = passed.passed (line - 1) (omega (arith, refused.counted, refused.within)) in

@@ -6,7 +6,7 @@ use Rattle.ojp_values.specs.Lists.{Among, IsRising, Pairwise}
 use Rattle.ojp_values.specs.Texts.{Text, text_lt}
 use Rattle.ojp_links.specs.Seen.{region_of_table}
 use Rattle.ojp_timetable.specs.Tables.{Timetable}
-use Rattle.ojp_timetable.specs.TableText.{IsRefused, IsText}
+use Rattle.ojp_timetable.specs.TableText.{IsTextRefused, IsText}
 use Rattle.ojp_timetable.specs.declared.lines.TableReason.{TableReason}
 use Rattle.ojp_network.specs.Draws.{below, state_after}
 use Rattle.ojp_network.specs.Networks.{file_of}
@@ -77,5 +77,5 @@ codes_rise number tables h =
 
 pub files_are_accepted : FilesAreAccepted
 files_are_accepted number =
-    each_below (λ (bytes : Text). (line : ℕ) (reason : TableReason) → IsRefused bytes line reason → ⊥) (file_of number) 12
+    each_below (λ (bytes : Text). (line : ℕ) (reason : TableReason) → IsTextRefused bytes line reason → ⊥) (file_of number) 12
     (λ k small. (files_are_texts (state_after number (1954 * k)) (k + 1) (omega arith) (omega (arith, small))).accepted)

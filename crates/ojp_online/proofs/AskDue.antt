@@ -6,7 +6,7 @@ use Rattle.ojp_grammar.specs.declared.refusals.Want.TheVariants.{Request}
 use Rattle.ojp_outside.specs.Seen.{SourceView, SinkView}
 use Rattle.ojp_links.specs.Seen.{View}
 use Rattle.ojp_steps.specs.Lent.{Lent, before, after}
-use Rattle.ojp_steps.specs.Endings.{Ends, Concludes}
+use Rattle.ojp_steps.specs.Endings.{HasEnding, Concludes}
 use Rattle.ojp_steps.specs.declared.failures.Failure.{Failure}
 use Rattle.ojp_steps.specs.declared.failures.Failure.TheVariants.{Document, Words, Unread, TooLong, Input, Output, Memory, Line, Twice, TooMany, Disagree, Region, Doors}
 use Rattle.ojp_steps.proofs.FileFacts.{rests_or_rose}
@@ -20,7 +20,7 @@ none_or_failed v code none (region, below, is, rose) = rests_or_rose 0 (v.faults
 
 module _ {I O L : Type 0} (host : Text) (port : ℕ) (input : Lent I SourceView) (output : Lent O SinkView) (links : Lent L View) where
   pub due_to_ask : {E : Type 0} (ended : Result (Unit {0}) Failure) (faults : Lent E SinkView) (result status : ℕ)
-      → Ends (Asked host port input output links) (AskFails host port input output links) ended → Concludes ended faults result
+      → HasEnding (Asked host port input output links) (AskFails host port input output links) ended → Concludes ended faults result
       → AskIsDue input output links status → (result ≡ 5) ⊎ (result ≡ status)
   due_to_ask (Ok nothing) faults result status e c (no_request bytes heard at reason refused) = absurd (spelled_or_refused Request input bytes heard (docs.Ask e.answer.ask) at reason e.answer.of_input refused)
   due_to_ask (Err (Document at_ cause)) faults result status e c (no_request bytes heard at reason refused) = inr c.0

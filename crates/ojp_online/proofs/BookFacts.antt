@@ -9,7 +9,7 @@ use Rattle.ojp_exchange.specs.declared.region_points.RegionPoints.{RegionPoints}
 use Rattle.ojp_exchange.specs.declared.refusals.BookRefused.{BookRefused}
 use Rattle.ojp_exchange.specs.declared.refusals.BookRefused.TheVariants as refusals
 use Rattle.ojp_exchange.specs.Book.{Book, IsBookOf, Link, Spot, link_lt, spot_lt}
-use Rattle.ojp_exchange.specs.Joins.{HaveOwnCodes, IsJoined, IsOneSided, IsRefused, times}
+use Rattle.ojp_exchange.specs.Joins.{HaveOwnCodes, IsJoined, IsOneSided, JoinFails, times}
 use Rattle.ojp_exchange.specs.Kept.{stops_of}
 use Rattle.ojp_gateway.proofs.PointFacts.{alike}
 
@@ -73,7 +73,7 @@ no_more lists book own of =
 -- ---- a book or a refusal
 
 -- no book is refused for another reason than memory
-pub joined_or_refused : (lists : List RegionPoints) (book : Book) (reason : BookRefused) → IsJoined lists book → IsRefused lists reason → reason ≢ refusals.NoMemory → ⊥
+pub joined_or_refused : (lists : List RegionPoints) (book : Book) (reason : BookRefused) → IsJoined lists book → JoinFails lists reason → reason ≢ refusals.NoMemory → ⊥
 joined_or_refused lists book (refusals.TwiceRegion code) j r other = omega (arith, j.own code, r.twice)
 joined_or_refused lists book refusals.TooMany j (own, inl more) other =
     omega (arith, more, no_more lists book own j.book_of, j.sound.regions_few)

@@ -8,17 +8,17 @@ use Rattle.ojp_outside.specs.declared.store.TheConstants.{FILE_LIMIT}
 use Rattle.ojp_timetable.specs.Tables.{Timetable}
 use Rattle.ojp_timetable.specs.declared.lines.TableReason.{TableReason}
 use Rattle.ojp_exchange.specs.Book.{Book, points_of}
-use Rattle.ojp_exchange.specs.Joins.{IsJoined, IsRefused as IsBookRefused}
+use Rattle.ojp_exchange.specs.Joins.{IsJoined, JoinFails as IsBookRefused}
 use Rattle.ojp_exchange.specs.declared.region_points.RegionPoints.{RegionPoints}
 use Rattle.ojp_exchange.specs.declared.refusals.BookRefused.{BookRefused}
 use Rattle.ojp_exchange.specs.declared.refusals.BookRefused.TheVariants as refusals
 use Rattle.ojp_links.specs.Seen.{View, TellsTables}
-use Rattle.ojp_regions.specs.RegionsText.{IsRefused, IsText}
+use Rattle.ojp_regions.specs.RegionsText.{JoinFails, IsText}
 use Rattle.ojp_regions.specs.declared.line.RegionLine.{RegionLine}
 use Rattle.ojp_regions.proofs.RegionFacts.{text_not_refused}
 use Rattle.ojp_gateway.specs.Learning.{FailsFirst, IsLearned, IsRefusedHeard}
 use Rattle.ojp_steps.specs.Lent.{Lent, before, after}
-use Rattle.ojp_steps.specs.Endings.{Ends, Concludes}
+use Rattle.ojp_steps.specs.Endings.{HasEnding, Concludes}
 use Rattle.ojp_steps.specs.Files.{IsReadable}
 use Rattle.ojp_steps.specs.Serving.{DoorsSeen}
 use Rattle.ojp_steps.specs.declared.failures.Failure.{Failure}
@@ -45,13 +45,13 @@ module _ {F : Type 0} (file : Text) (store : Lent F StoreView) (bytes : Text) (r
       let short : length is.bytes ≤ FILE_LIMIT = is.within in
       omega (arith, ap length (same_bytes is.bytes is.held), short, long)
 
-  accepted_or_refused : (regions : List RegionLine) (line : ℕ) (reason : TableReason) → IsFileOf file store regions → IsRefused bytes line reason → ⊥
+  accepted_or_refused : (regions : List RegionLine) (line : ℕ) (reason : TableReason) → IsFileOf file store regions → JoinFails bytes line reason → ⊥
   accepted_or_refused regions line reason is refused =
       text_not_refused bytes regions line reason (subst (λ (b : Text). IsText b regions) (same_bytes is.bytes is.held) is.is_text) refused
 
   refused_or_accepted : (regions : List RegionLine) (line : ℕ) (reason : TableReason) → IsRefusedFile file store line reason → IsText bytes regions → ⊥
   refused_or_accepted regions line reason is text =
-      text_not_refused bytes regions line reason text (subst (λ (b : Text). IsRefused b line reason) (same_bytes is.bytes is.held) is.refused)
+      text_not_refused bytes regions line reason text (subst (λ (b : Text). JoinFails b line reason) (same_bytes is.bytes is.held) is.refused)
 
 -- ---- the book
 
@@ -70,7 +70,7 @@ none_or_first v code none f = rests_or_rose 0 (v.faults f.region) (none f.region
 
 module _ {F O D L : Type 0} (file : Text) (port : ℕ) (count : Option ℕ) (store : Lent F StoreView) (output : Lent O SinkView) (doors : Lent D DoorsSeen) (links : Lent L View) where
   pub due_to_gateway : {E : Type 0} (ended : Result (Unit {0}) Failure) (faults : Lent E SinkView) (result status : ℕ)
-      → Ends (GatewayServed file port count store output doors links) (GatewayFails file port count store output doors links) ended → Concludes ended faults result
+      → HasEnding (GatewayServed file port count store output doors links) (GatewayFails file port count store output doors links) ended → Concludes ended faults result
       → GatewayIsDue file store output doors links status → (result ≡ 5) ⊎ (result ≡ status)
   due_to_gateway (Ok nothing) faults result status e c (too_long bytes r long) = absurd (within_limit file store bytes r e.learned.has_file.regions e.learned.has_file.of_file long)
   due_to_gateway (Err (Document at_ cause)) faults result status e c (too_long bytes r long) = absurd e

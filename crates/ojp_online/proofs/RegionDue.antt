@@ -10,7 +10,7 @@ use Rattle.ojp_steps.specs.Files.{IsFileOf}
 use Rattle.ojp_steps.specs.Serving.{DoorsSeen, ServesAt}
 use Rattle.ojp_steps.specs.declared.serving.NotServed.TheVariants as servings
 use Rattle.ojp_online.specs.Regions.{RegionServed, RegionFails, RegionIsDue, too_long, no_table, all_served}
-use Rattle.ojp_steps.specs.Endings.{Ends, Concludes}
+use Rattle.ojp_steps.specs.Endings.{HasEnding, Concludes}
 use Rattle.ojp_steps.specs.declared.failures.Failure.{Failure}
 use Rattle.ojp_steps.specs.declared.failures.Failure.TheVariants.{Document, Words, Unread, TooLong, Input, Output, Memory, Line, Twice, TooMany, Disagree, Region, Doors}
 use Rattle.ojp_steps.proofs.FileFacts.{rests_or_rose, opens, long_or_short, within_limit, refused_within, accepted_or_refused, refused_or_accepted}
@@ -23,7 +23,7 @@ module _ {F O D : Type 0} (file : Text) (port : ℕ) (count : Option ℕ) (store
   fails_for_doors table is (inr s) = inr (record { table = table; of_file = is; is_ready = s.0; serves = s.1 })
 
   pub due_to_region : {E : Type 0} (ended : Result (Unit {0}) Failure) (faults : Lent E SinkView) (result status : ℕ)
-      → Ends (RegionServed file port count store output doors) (RegionFails file port count store output doors) ended → Concludes ended faults result
+      → HasEnding (RegionServed file port count store output doors) (RegionFails file port count store output doors) ended → Concludes ended faults result
       → RegionIsDue file store output doors status → (result ≡ 5) ⊎ (result ≡ status)
   -- the file is too long
   due_to_region (Ok nothing) faults result status e c (too_long bytes r long) = absurd (within_limit file store bytes r e.table e.of_file long)

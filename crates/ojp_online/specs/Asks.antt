@@ -7,7 +7,7 @@ use Rattle.ojp_values.specs.declared.replies.Delivery.{Delivery}
 use Rattle.ojp_outside.specs.Causes.{Rests}
 use Rattle.ojp_outside.specs.Seen.{SourceView, SinkView}
 use Rattle.ojp_grammar.specs.Answering.{SpellsAsk, SpellsDelivery}
-use Rattle.ojp_grammar.specs.Places.{IsRefused}
+use Rattle.ojp_grammar.specs.Places.{IsDocumentRefused}
 use Rattle.ojp_grammar.specs.declared.refusals.Reason.{Reason}
 use Rattle.ojp_grammar.specs.declared.refusals.Want.TheVariants.{Request}
 use Rattle.ojp_links.specs.Replies.{IsOfKind}
@@ -66,7 +66,7 @@ AskFails host port input output links failure = ⊥
 -- the status that is due where the input tells its bytes and no count rose
 pub data AskIsDue {I O L : Type 0} (input : Lent I SourceView) (output : Lent O SinkView) (links : Lent L View) : ℕ → Type 0 where
   -- the input is no request
-  no_request : (bytes : Text) → IsHeard input bytes → (at : ℕ) (reason : Reason) → IsRefused Request bytes at reason → AskIsDue input output links 1
+  no_request : (bytes : Text) → IsHeard input bytes → (at : ℕ) (reason : Reason) → IsDocumentRefused Request bytes at reason → AskIsDue input output links 1
   -- the input is a request, the link did not fail, and no write failed
   an_answer : (bytes : Text) → IsHeard input bytes → (ask : Ask) → SpellsAsk ask bytes → HasFailedNone (after links)
       → Rests (before output).faults (after output).faults → AskIsDue input output links 0

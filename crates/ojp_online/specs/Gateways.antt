@@ -14,7 +14,7 @@ use Rattle.ojp_exchange.specs.declared.refusals.BookRefused.TheVariants as refus
 use Rattle.ojp_grammar.specs.Answering.{AnswersBody}
 use Rattle.ojp_links.specs.Seen.{View, NoneLive, TellsTables}
 use Rattle.ojp_links.specs.Calls.{Keeps}
-use Rattle.ojp_regions.specs.RegionsText.{IsRefused as IsTextRefused}
+use Rattle.ojp_regions.specs.RegionsText.{IsListRefused as IsTextRefused}
 use Rattle.ojp_regions.specs.declared.line.RegionLine.{RegionLine}
 use Rattle.ojp_gateway.specs.Answers.{IsNotServed, IsRightWhereTold, NamesFailed, NoneRejected}
 use Rattle.ojp_gateway.specs.Learning.{FailsFirst, IsLearned, IsRefusedHeard}

@@ -5,7 +5,7 @@ use Rattle.ojp_outside.specs.Files.{IsContents}
 use Rattle.ojp_outside.specs.declared.store.TheConstants.{FILE_LIMIT}
 use Rattle.ojp_outside.specs.Seen.{StoreView}
 use Rattle.ojp_timetable.specs.declared.lines.TableReason.{TableReason}
-use Rattle.ojp_regions.specs.RegionsText.{IsText, IsRefused}
+use Rattle.ojp_regions.specs.RegionsText.{IsText, IsListRefused}
 use Rattle.ojp_regions.specs.declared.line.RegionLine.{RegionLine}
 use Rattle.ojp_steps.specs.Lent.{Lent, before}
 use Rattle.ojp_steps.specs.Files.{StandsAsBefore, FailsToOpen, IsTooLong, IsReadable}
@@ -25,7 +25,7 @@ pub record IsRefusedFile {F : Type 0} (file : Text) (store : Lent F StoreView) (
   pub bytes : Text
   pub held : IsContents (before store).contents file bytes
   pub within : length bytes ≤ FILE_LIMIT
-  pub refused : IsRefused bytes line reason
+  pub refused : IsListRefused bytes line reason
   pub same : StandsAsBefore store
 
 -- how the reading of a file of regions ends

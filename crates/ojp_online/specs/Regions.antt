@@ -5,7 +5,7 @@ use Rattle.ojp_outside.specs.Causes.{Rests}
 use Rattle.ojp_outside.specs.declared.store.TheConstants.{FILE_LIMIT}
 use Rattle.ojp_outside.specs.Seen.{SinkView, StoreView}
 use Rattle.ojp_timetable.specs.Tables.{Timetable}
-use Rattle.ojp_timetable.specs.TableText.{IsRefused as IsTableRefused}
+use Rattle.ojp_timetable.specs.TableText.{IsTextRefused as IsTableRefused}
 use Rattle.ojp_timetable.specs.declared.lines.TableReason.{TableReason}
 use Rattle.ojp_grammar.specs.Answering.{AnswersBody}
 use Rattle.ojp_timetable.specs.Answers.{RegionAnswers}

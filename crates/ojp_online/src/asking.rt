@@ -3,7 +3,7 @@
 ghost use Rattle.std.specs.Prelude.{◌≡◌, []};
 ghost use Rattle.ojp_links.specs.Seen.{NoneLive};
 ghost use Rattle.ojp_steps.specs.Lent.{lent};
-ghost use Rattle.ojp_steps.specs.Endings.{Ends};
+ghost use Rattle.ojp_steps.specs.Endings.{HasEnding};
 ghost use Rattle.ojp_online.specs.Added.{HasRejectedNoneServed};
 ghost use Rattle.ojp_online.specs.Asks.{Asked, AskFails, one_code};
 
@@ -33,7 +33,7 @@ pub fn ask<R: Runtime, I: Source, O: Sink, L: WaitLinks>(
     ensures ends { let lent_input = lent I.seen input.old input.new in
         let lent_output = lent O.seen output.old output.new in
         let lent_links = lent L.seen links.old links.new in
-        Ends (Asked host.now port lent_input lent_output lent_links) (AskFails host.now port lent_input lent_output lent_links) result }
+        HasEnding (Asked host.now port lent_input lent_output lent_links) (AskFails host.now port lent_input lent_output lent_links) result }
     ensures none_live { NoneLive (L.seen links.new) }
     ensures rejections { HasRejectedNoneServed (L.seen links.new) }
 {

@@ -2,7 +2,7 @@
 
 ghost use Rattle.std.specs.Prelude.{◌≡◌, [], false};
 ghost use Rattle.ojp_links.specs.Seen.{NoneLive};
-ghost use Rattle.ojp_steps.specs.Endings.{Ends};
+ghost use Rattle.ojp_steps.specs.Endings.{HasEnding};
 ghost use Rattle.ojp_steps.specs.Lent.{lent};
 ghost use Rattle.ojp_steps.specs.Serving.{seen_as};
 ghost use Rattle.ojp_online.specs.Added.{HasRejectedNoneTold};
@@ -40,7 +40,7 @@ pub fn gateway<'a, R: Runtime, O: Sink, F: Store, D: Doors, L: WaitLinks>(
         let lent_output = lent O.seen output.old output.new in
         let lent_doors = lent (λ d. seen_as (D.seen d) (D.faults d)) doors.old doors.new in
         let lent_links = lent L.seen links.old links.new in
-        Ends (GatewayServed file.now listening.port listening.count lent_store lent_output lent_doors lent_links)
+        HasEnding (GatewayServed file.now listening.port listening.count lent_store lent_output lent_doors lent_links)
         (GatewayFails file.now listening.port listening.count lent_store lent_output lent_doors lent_links) result }
     ensures none_live { NoneLive (L.seen links.new) }
     ensures rejections { HasRejectedNoneTold (L.seen links.new) }

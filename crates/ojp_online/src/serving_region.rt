@@ -2,7 +2,7 @@
 
 ghost use Rattle.std.specs.Prelude.{◌≡◌, false, Ok, Err};
 ghost use Rattle.ojp_steps.specs.Lent.{lent};
-ghost use Rattle.ojp_steps.specs.Endings.{Ends};
+ghost use Rattle.ojp_steps.specs.Endings.{HasEnding};
 ghost use Rattle.ojp_steps.specs.Serving.{seen_as};
 ghost use Rattle.ojp_online.specs.Regions.{RegionServed, RegionFails};
 
@@ -27,7 +27,7 @@ pub(crate) fn region<'a, R: Wait, O: Sink, F: Store, D: Doors>(
     ensures { let lent_store = lent F.seen store.old store.new in
         let lent_output = lent O.seen output.old output.new in
         let lent_doors = lent (λ d. seen_as (D.seen d) (D.faults d)) doors.old doors.new in
-        Ends (RegionServed file.now listening.port listening.count lent_store lent_output lent_doors)
+        HasEnding (RegionServed file.now listening.port listening.count lent_store lent_output lent_doors)
         (RegionFails file.now listening.port listening.count lent_store lent_output lent_doors) result }
 {
     let table = match read_table(alloc, file, store) {

@@ -3,7 +3,7 @@ ghost use Rattle.std.specs.Prelude.{◌≡◌, ◌≢◌, ◌≤◌, ◌<◌, �
 ghost use Rattle.ojp_outside.specs.Causes.{Rose};
 
 use crate::reading::read_all;
-use crate::{FILE_LIMIT, ReadRefused, StdSource, Store, StoreRefused};
+use crate::{FILE_LIMIT, SourceRefused, StdSource, Store, StoreRefused};
 use std::alloc::Global;
 use std::fs;
 use std::rt::Files;
@@ -34,8 +34,8 @@ fn read_whole<R: Files>(files: &R, alloc: Global, name: &str) -> Result<Vec<u8>,
     match read_all(alloc, &mut StdSource::new(file), FILE_LIMIT + 1) {
         Ok(bytes) if bytes.len() <= FILE_LIMIT => Ok(bytes),
         Ok(_) => Err(StoreRefused::TooLong),
-        Err(ReadRefused::Failed) => Err(StoreRefused::Failed),
-        Err(ReadRefused::NoMemory) => Err(StoreRefused::NoMemory),
+        Err(SourceRefused::Failed) => Err(StoreRefused::Failed),
+        Err(SourceRefused::NoMemory) => Err(StoreRefused::NoMemory),
     }
 }
 

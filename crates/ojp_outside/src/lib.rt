@@ -30,7 +30,7 @@ pub use mem_doors::MemDoors;
 pub use mem_sink::MemSink;
 pub use mem_source::MemSource;
 pub use mem_store::MemStore;
-pub use reading::{ReadRefused, read_all};
+pub use reading::{SourceRefused, read_all};
 pub use sink::{Sink, WriteFault, put_all, put_parts};
 pub use source::{Failed, Source};
 pub use std_clock::StdClock;

@@ -9,7 +9,7 @@ use std::alloc::Global;
 
 /// Why a source was not read to its end.
 #[derive(Clone, Copy, Debug, PartialEq, Eq)]
-pub enum ReadRefused {
+pub enum SourceRefused {
     /// A read failed.
     Failed,
     /// Memory ran out.
@@ -25,15 +25,15 @@ pub fn read_all<S: Source>(
     alloc: Global,
     source: &mut S,
     most: usize,
-) -> Result<Vec<u8>, ReadRefused>
+) -> Result<Vec<u8>, SourceRefused>
     ensures within { IfOk result (λ bytes. vec_len bytes ≤ most) }
     ensures taken { IfOk result (λ bytes. Consumes (S.seen source.old).left (S.seen source.new).left bytes.items) }
     ensures at_end { IfOk result (λ bytes. vec_len bytes < most → IsAtEnd (S.seen source.new).left) }
     ensures ended { IfOk result (λ bytes. vec_len bytes < most → IsTrue (S.seen source.new).ended) }
     ensures lost { OnErr result (LosesPrefix (S.seen source.old).left (S.seen source.new).left) }
     ensures later { (S.seen source.old).faults ≤ (S.seen source.new).faults }
-    ensures at_rest { result ≢ Err ReadRefused.Failed → (S.seen source.new).faults ≡ (S.seen source.old).faults }
-    ensures failed { result ≡ Err ReadRefused.Failed → Rose (S.seen source.old).faults (S.seen source.new).faults }
+    ensures at_rest { result ≢ Err SourceRefused.Failed → (S.seen source.new).faults ≡ (S.seen source.old).faults }
+    ensures failed { result ≡ Err SourceRefused.Failed → Rose (S.seen source.old).faults (S.seen source.new).faults }
 {
     let mut taken: Vec<u8> = Vec::new(alloc);
     let mut piece = [0u8; 8192];
@@ -41,14 +41,14 @@ pub fn read_all<S: Source>(
         let room = (most - taken.len()).min(8192);
         let count = match source.read(&mut piece[..room]) {
             Ok(count) => count,
-            Err(Failed) => return Err(ReadRefused::Failed),
+            Err(Failed) => return Err(SourceRefused::Failed),
         };
         if count == 0 {
             break;
         }
         match taken.extend_from_slice(&piece[..count]) {
             Ok(()) => {}
-            Err(_) => return Err(ReadRefused::NoMemory),
+            Err(_) => return Err(SourceRefused::NoMemory),
         }
     }
     Ok(taken)

@@ -7,18 +7,18 @@ use Rattle.ojp_values.specs.declared.documents.Doc.TheVariants as docs
 use Rattle.ojp_outside.specs.Seen.{SourceView, SinkView, StoreView}
 use Rattle.ojp_outside.specs.declared.store.TheConstants.{FILE_LIMIT}
 use Rattle.ojp_timetable.specs.Tables.{Timetable}
-use Rattle.ojp_timetable.specs.TableText.{IsText, IsRefused as IsTableRefused}
+use Rattle.ojp_timetable.specs.TableText.{IsText, JoinFails as IsTableRefused}
 use Rattle.ojp_timetable.specs.declared.lines.TableReason.{TableReason}
 use Rattle.ojp_timetable.proofs.NoonOnce.{one_table}
 use Rattle.ojp_timetable.proofs.RefusalFacts.{text_not_refused}
 use Rattle.ojp_grammar.specs.declared.refusals.Want.TheVariants as wants
 use Rattle.ojp_exchange.specs.Book.{Book, points_of}
-use Rattle.ojp_exchange.specs.Joins.{IsJoined, IsRefused}
+use Rattle.ojp_exchange.specs.Joins.{IsJoined, JoinFails}
 use Rattle.ojp_exchange.specs.declared.refusals.BookRefused.{BookRefused}
 use Rattle.ojp_exchange.specs.declared.refusals.BookRefused.TheVariants as refusals
 use Rattle.ojp_links_mem.specs.Files.{FilesView, FailsToRead, IsTooLong, IsRefusedFile}
 use Rattle.ojp_steps.specs.Lent.{Lent, before, after}
-use Rattle.ojp_steps.specs.Endings.{Ends, Concludes}
+use Rattle.ojp_steps.specs.Endings.{HasEnding, Concludes}
 use Rattle.ojp_steps.specs.declared.failures.Failure.{Failure}
 use Rattle.ojp_steps.specs.declared.failures.Failure.TheVariants.{Document, Unread, TooLong, Input, Output, Memory, Line, Twice, TooMany, Disagree}
 use Rattle.ojp_steps.proofs.FileFacts.{rests_or_rose, told_is}
@@ -164,7 +164,7 @@ module _ {F I O : Type 0} (order : ℕ) (traces : Bool) (trace : Text) (names : 
       no_reason : (book : Book) → IsJoined (map points_of tables) book → (reason : BookRefused) → reason ≢ refusals.NoMemory → MakesNoBook old names reason → ⊥
       no_reason book joined reason other makes =
           let same : makes.tables ≡ tables = one_list held names makes.tables tables (goods held old told.contents names makes.tables makes.texts) good in
-          joined_or_refused (map points_of tables) book reason joined (subst (λ (ts : List Timetable). IsRefused (map points_of ts) reason) same makes.refused) other
+          joined_or_refused (map points_of tables) book reason joined (subst (λ (ts : List Timetable). JoinFails (map points_of ts) reason) same makes.refused) other
 
     -- they make no book where none is joined
     unmade : (tables : List Timetable) → Pairwise (IsGood held) names tables → ((book : Book) → IsJoined (map points_of tables) book → ⊥) → (others : List Timetable) → MakesBook old names others → ⊥
@@ -191,7 +191,7 @@ module _ {F I O : Type 0} (order : ℕ) (traces : Bool) (trace : Text) (names : 
           (λ file h has. short_or_long held old told.contents new file bytes h.1 has short) (λ file table g h. long_or_good held old told.contents new file table g h.1) (refused_no_text held bytes n why refused)
 
   pub due_to_plan : {E : Type 0} (ended : Result (Unit {0}) Failure) (faults : Lent E SinkView) (result status : ℕ)
-      → Ends (Planned order traces trace names files input output) (PlanFails order traces trace names files input output) ended → Concludes ended faults result
+      → HasEnding (Planned order traces trace names files input output) (PlanFails order traces trace names files input output) ended → Concludes ended faults result
       → PlanIsDue names files input output status → (result ≡ 5) ⊎ (result ≡ status)
   -- a file is too long
   due_to_plan (Ok nothing) faults result status e c (too_long held told bytes comes long) = absurd (all_long held told bytes comes long e.due.tables (texts_of held told e.due.tables e.due.of_files))

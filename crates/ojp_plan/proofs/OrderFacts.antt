@@ -20,7 +20,7 @@ use Rattle.ojp_exchange.specs.declared.region_points.RegionPoints.{RegionPoints}
 use Rattle.ojp_exchange.specs.declared.refusals.BookRefused.{BookRefused}
 use Rattle.ojp_exchange.specs.declared.refusals.BookRefused.TheVariants as refusals
 use Rattle.ojp_exchange.specs.Book.{Book, HasCode, HasLink, HasSpot, IsBookOf, Link, Spot, points_of}
-use Rattle.ojp_exchange.specs.Joins.{AreTooMany, HaveOwnCodes, IsDispute, IsLeastTwice, IsRefused, times}
+use Rattle.ojp_exchange.specs.Joins.{AreTooMany, HaveOwnCodes, IsDispute, IsLeastTwice, JoinFails, times}
 use Rattle.ojp_exchange.proofs.MadeFacts.{among_back, among_map, among_moved, code_list, map_among, own_codes}
 use Rattle.ojp_links.specs.Seen.{region_of_table}
 use Rattle.ojp_records.specs.declared.queries.Query.{Query}
@@ -206,7 +206,7 @@ module _ (given rising : List Timetable) (p : IsPermutation given rising) where
   }
 
   -- the reason why there is no book
-  pub refused_given : (reason : BookRefused) → IsRefused (map points_of rising) reason → IsRefused (map points_of given) reason
+  pub refused_given : (reason : BookRefused) → JoinFails (map points_of rising) reason → JoinFails (map points_of given) reason
   refused_given (refusals.TwiceRegion code) h = twice_given code h
   refused_given refusals.TooMany (own, more) = (own_given own, too_many_given more)
   refused_given (refusals.Disagree point left right) h = dispute_given point left right h

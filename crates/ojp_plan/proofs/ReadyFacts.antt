@@ -12,7 +12,7 @@ use Rattle.ojp_timetable.specs.GatewayAnswers.{GatewayAnswers}
 use Rattle.ojp_exchange.specs.declared.region_points.RegionPoints.{RegionPoints}
 use Rattle.ojp_exchange.specs.declared.refusals.BookRefused.{BookRefused}
 use Rattle.ojp_exchange.specs.Book.{Book, points_of}
-use Rattle.ojp_exchange.specs.Joins.{IsJoined, IsLeastTwice, IsRefused, times}
+use Rattle.ojp_exchange.specs.Joins.{IsJoined, IsLeastTwice, JoinFails, times}
 use Rattle.ojp_exchange.proofs.MadeFacts.{count_map}
 use Rattle.ojp_links.specs.Seen.{Fixed, IsSound, NoneLive, Station, View, code_of_station, codes_of, region_of_table}
 use Rattle.ojp_links.specs.Calls.{Keeps}
@@ -71,9 +71,9 @@ twice_listed tables code h = record {
     counts z = count_map region_of_table (same z) tables ∙ sym (count_map points_of (λ (list : RegionPoints). same z list.code) tables)
 
 -- the links were not opened
-pub not_opened : (old new : FilesView) (refused : OpenRefused) (reason : BookRefused) → OpenEnds {T = Unit {0}} old new (Err refused) → reason ≡ reason_of_opening refused → IsRefused (map points_of old.tables) reason
-not_opened old new (opens.TwiceRegion code) reason h e = subst (IsRefused (map points_of old.tables)) (sym e) (twice_listed old.tables code h.0)
-not_opened old new opens.NoMemory reason h e = subst (IsRefused (map points_of old.tables)) (sym e) tt
+pub not_opened : (old new : FilesView) (refused : OpenRefused) (reason : BookRefused) → OpenEnds {T = Unit {0}} old new (Err refused) → reason ≡ reason_of_opening refused → JoinFails (map points_of old.tables) reason
+not_opened old new (opens.TwiceRegion code) reason h e = subst (JoinFails (map points_of old.tables)) (sym e) (twice_listed old.tables code h.0)
+not_opened old new opens.NoMemory reason h e = subst (JoinFails (map points_of old.tables)) (sym e) tt
 
 -- ---- calls on the links
 
@@ -116,9 +116,9 @@ module _ (order : ℕ) (v w : View) (before : IsSound v) (after : IsSound w) whe
       regions = same_regions book v.fixed w.fixed keeps.fixed l.regions;
     }
 
-    pub not_learned : (reason : BookRefused) → IsRefusedHeard v reason → IsRefused (map points_of given) reason
+    pub not_learned : (reason : BookRefused) → IsRefusedHeard v reason → JoinFails (map points_of given) reason
     not_learned reason h =
-        refused_given given o.tables o.rising.just_these reason (subst (λ (lists : List RegionPoints). IsRefused lists reason) (h.heard.told o.tables o.ready.tells) h.refused)
+        refused_given given o.tables o.rising.just_these reason (subst (λ (lists : List RegionPoints). JoinFails lists reason) (h.heard.told o.tables o.ready.tells) h.refused)
 
     pub none_failed_to_learn : (code : Text) → FailsFirst v w code → ⊥
     none_failed_to_learn code h = none_failed keeps.fixed o.tables o.ready calm_told code (h.region, h.below, h.is, h.rose)

@@ -7,7 +7,7 @@ use Rattle.ojp_outside.specs.Seen.{StoreView}
 use Rattle.ojp_timetable.specs.Tables.{Timetable}
 use Rattle.ojp_timetable.specs.TableText.{IsText}
 use Rattle.ojp_exchange.specs.Book.{Book, points_of}
-use Rattle.ojp_exchange.specs.Joins.{IsJoined, IsRefused}
+use Rattle.ojp_exchange.specs.Joins.{IsJoined, JoinFails}
 use Rattle.ojp_exchange.specs.declared.refusals.BookRefused.{BookRefused}
 use Rattle.ojp_exchange.specs.declared.refusals.BookRefused.TheVariants as refusals
 use Rattle.ojp_outside.specs.declared.store.TheConstants.{FILE_LIMIT}
@@ -52,7 +52,7 @@ pub record MakesBook (store : StoreView) (names : List Text) (tables : List Time
 pub record MakesNoBook (store : StoreView) (names : List Text) (reason : BookRefused) : Type 0 where
   pub tables : List Timetable
   pub texts : AreTextsOf store names tables
-  pub refused : IsRefused (map points_of tables) reason
+  pub refused : JoinFails (map points_of tables) reason
 
 -- why the regions of the files can't be asked
 abbrev pub FilesFail : {F : Type 0} → List Text → Lent F FilesView → Failure → Type 0

@@ -8,11 +8,11 @@ use Rattle.ojp_values.specs.declared.replies.Delivery.{Delivery}
 use Rattle.ojp_outside.specs.Causes.{Rests}
 use Rattle.ojp_outside.specs.Seen.{SourceView, SinkView}
 use Rattle.ojp_timetable.specs.Tables.{Timetable}
-use Rattle.ojp_timetable.specs.TableText.{IsText, IsRefused as IsTableRefused}
+use Rattle.ojp_timetable.specs.TableText.{IsText, IsDocumentRefused as IsTableRefused}
 use Rattle.ojp_timetable.specs.declared.lines.TableReason.{TableReason}
 use Rattle.ojp_timetable.specs.GatewayAnswers.{GatewayAnswers}
 use Rattle.ojp_grammar.specs.Answering.{SpellsAsk, SpellsDelivery}
-use Rattle.ojp_grammar.specs.Places.{IsRefused}
+use Rattle.ojp_grammar.specs.Places.{IsDocumentRefused}
 use Rattle.ojp_grammar.specs.declared.refusals.Reason.{Reason}
 use Rattle.ojp_grammar.specs.declared.refusals.Want.TheVariants as wants
 use Rattle.ojp_exchange.specs.Book.{Book, points_of}
@@ -23,7 +23,7 @@ use Rattle.ojp_outside.specs.declared.store.TheConstants.{FILE_LIMIT}
 use Rattle.ojp_links_mem.specs.Files.{FilesView}
 use Rattle.ojp_steps.specs.Lent.{Lent, before, after, IsUnused, Gains, GainsInPart, TellsTrace}
 use Rattle.ojp_outside.specs.declared.mem_sink.MemSink.{MemSink}
-use Rattle.ojp_steps.specs.Endings.{Ends}
+use Rattle.ojp_steps.specs.Endings.{HasEnding}
 use Rattle.ojp_steps.specs.Inputs.{IsDocumentOf, IsNoDocument, FailsToRead, IsReadInPart, IsHeard}
 use Rattle.ojp_steps.specs.declared.failures.Failure.{Failure}
 use Rattle.ojp_steps.specs.declared.failures.Failure.TheVariants.{Document, Input, Output, Memory}
@@ -90,7 +90,7 @@ MakesText order traces trace names files input (Err failure) = AnswerFails names
 -- `plan` ends so, and standard error gained this trace, unless a write to it failed; its count of faults did not fall
 pub record PlansAs {F I O E : Type 0} (order : ℕ) (traces : Bool) (names : List Text) (files : Lent F FilesView) (input : Lent I SourceView) (output : Lent O SinkView) (faults : Lent E SinkView) (ended : Result (Unit {0}) Failure) : Type 0 where
   pub trace : Text
-  pub ends : Ends (Planned order traces trace names files input output) (PlanFails order traces trace names files input output) ended
+  pub ends : HasEnding (Planned order traces trace names files input output) (PlanFails order traces trace names files input output) ended
   pub told : TellsTrace faults trace
   pub later : (before faults).faults ≤ (after faults).faults
 
@@ -138,7 +138,7 @@ pub data PlanIsDue {F I O : Type 0} (names : List Text) (files : Lent F FilesVie
       → ((book : Book) → IsJoined (map points_of tables) book → ⊥) → PlanIsDue names files input output 7
   -- the input is no request
   no_request : (held : Text → Option Text) → IsTold files held → AreGood held names → (bytes : Text) → IsHeard input bytes
-      → (at : ℕ) (reason : Reason) → IsRefused wants.Request bytes at reason → PlanIsDue names files input output 1
+      → (at : ℕ) (reason : Reason) → IsDocumentRefused wants.Request bytes at reason → PlanIsDue names files input output 1
   -- files and input are in order, and no write failed
   an_answer : (held : Text → Option Text) → IsTold files held → AreGood held names → (bytes : Text) → IsHeard input bytes → (ask : Ask) → SpellsAsk ask bytes
       → Rests (before output).faults (after output).faults → PlanIsDue names files input output 0

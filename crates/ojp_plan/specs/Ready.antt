@@ -3,7 +3,7 @@ use Rattle.std.specs.Prelude.{◌≡◌, ℕ, true, List, map, Some, Result, Ok,
 use Rattle.ojp_outside.specs.Seen.{StoreView}
 use Rattle.ojp_timetable.specs.Tables.{Timetable}
 use Rattle.ojp_exchange.specs.Book.{Book, points_of}
-use Rattle.ojp_exchange.specs.Joins.{IsRefused}
+use Rattle.ojp_exchange.specs.Joins.{JoinFails}
 use Rattle.ojp_exchange.specs.declared.refusals.BookRefused.{BookRefused}
 use Rattle.ojp_values.specs.Texts.{Text}
 use Rattle.ojp_links.specs.Seen.{View, NoneLive, TellsTables}
@@ -38,12 +38,12 @@ pub record IsLearnedOf (given : List Timetable) (order : ℕ) (book : Book) (v :
 -- the links were opened over the timetables given; or two of these are of one region
 abbrev pub OpensOver : List Timetable → View → Result (Unit {0}) BookRefused → Type 0
 OpensOver given v (Ok done) = IsOpenOver given 0 v
-OpensOver given v (Err reason) = IsRefused (map points_of given) reason
+OpensOver given v (Err reason) = JoinFails (map points_of given) reason
 
 -- the book of the timetables given was learned; or they make none, for this reason
 abbrev pub LearnsOf : List Timetable → ℕ → View → Result Book BookRefused → Type 0
 LearnsOf given order v (Ok book) = IsLearnedOf given order book v
-LearnsOf given order v (Err reason) = IsRefused (map points_of given) reason
+LearnsOf given order v (Err reason) = JoinFails (map points_of given) reason
 
 -- the files are the texts of timetables, whose book was learned, and no ask is counted yet
 pub record IsPrepared (store : StoreView) (names : List Text) (order : ℕ) (v : View) (book : Book) : Type 0 where

@@ -8,7 +8,7 @@ use Rattle.ojp_values.specs.declared.documents.Doc.TheVariants as docs
 use Rattle.ojp_outside.specs.Causes.{Rests, Rose}
 use Rattle.ojp_grammar.specs.declared.refusals.Want.TheVariants.{Request}
 use Rattle.ojp_grammar.specs.Answering.{AnswersBody, DeliversBody, RefusesBody, SpellsAsk}
-use Rattle.ojp_grammar.specs.Places.{IsRefused}
+use Rattle.ojp_grammar.specs.Places.{IsDocumentRefused}
 use Rattle.ojp_grammar.proofs.OnePlace.{only_more_refused}
 use Rattle.ojp_http.specs.declared.served.Served.{Served}
 use Rattle.ojp_http.specs.declared.served.Served.TheVariants.{Answered, ReadFault, WriteFault, NoMemory}
@@ -26,8 +26,8 @@ no_rise before now rests rose = omega (arith, rests.same, rests.below_end, rose)
 not_refused : (ask : Ask) (body text : Text) (status : ℕ) → SpellsAsk ask body → RefusesBody body status text → ⊥
 not_refused ask body text status spells refuses =
     let at_end : body ++ [] ≡ body = append-nil body in
-    let refused = subst (λ (bytes : Text). IsRefused Request bytes refuses.at refuses.reason) (sym at_end) refuses.refused in
-    let whole = subst (λ (bytes : Text). IsRefused Request (bytes ++ []) refuses.at refuses.reason) spells.spells refused in
+    let refused = subst (λ (bytes : Text). IsDocumentRefused Request bytes refuses.at refuses.reason) (sym at_end) refuses.refused in
+    let whole = subst (λ (bytes : Text). IsDocumentRefused Request (bytes ++ []) refuses.at refuses.reason) spells.spells refused in
     (only_more_refused Request (docs.Ask ask) [] refuses.at refuses.reason spells.wanted whole).0 refl
 
 module _ (Relates : Ask → Delivery → Type 0) where

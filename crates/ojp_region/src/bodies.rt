@@ -6,7 +6,7 @@ ghost use Rattle.ojp_values.specs.declared.documents.Doc.TheVariants as docs;
 ghost use Rattle.ojp_grammar.specs.declared.refusals.Want.TheVariants as wants;
 ghost use Rattle.ojp_grammar.specs.Answering.{AnswersBody, SpellsDelivery};
 ghost use Rattle.ojp_grammar.specs.Documents.{IsWanted, Spells};
-ghost use Rattle.ojp_grammar.specs.Places.{IsRefused};
+ghost use Rattle.ojp_grammar.specs.Places.{IsDocumentRefused};
 ghost use Rattle.ojp_grammar.specs.Reasons.{refusal_line};
 ghost use Rattle.ojp_http.specs.Responses.{is_answer_status};
 ghost use Rattle.ojp_scan.specs.Scans.{IsMadeFor};

@@ -7,7 +7,7 @@ use Rattle.ojp_timetable.proofs.RefusalFacts.{neither}
 use Rattle.ojp_timetable.specs.TableText.{lines_of}
 use Rattle.ojp_timetable.specs.declared.lines.TableReason.{TableReason}
 use Rattle.ojp_regions.specs.Lines.{AddsLine, IsFault, Says, codes_in, form, values, doubled, too_many}
-use Rattle.ojp_regions.specs.RegionsText.{AreApart, AreSaid, IsRefused, IsRefusedLine, IsText}
+use Rattle.ojp_regions.specs.RegionsText.{AreApart, AreSaid, IsListRefused, IsRefusedLine, IsText}
 use Rattle.ojp_regions.specs.declared.line.RegionLine.{RegionLine}
 use Rattle.ojp_regions.proofs.PortFacts.{one_decimal}
 
@@ -133,7 +133,7 @@ said_or_fault above text below regions before reason all said fault =
     go reason (too_many region says own full) at same apart =
         omega (arith, full, ap length same, ap length at.is, length-append at.before (at.here ∷ at.after), all.within)
 
-pub text_not_refused : (bytes : Text) (regions : List RegionLine) (line : ℕ) (reason : TableReason) → IsText bytes regions → IsRefused bytes line reason → ⊥
+pub text_not_refused : (bytes : Text) (regions : List RegionLine) (line : ℕ) (reason : TableReason) → IsText bytes regions → IsListRefused bytes line reason → ⊥
 text_not_refused bytes regions line reason is (inl refused) =
     said_or_fault refused.above refused.text refused.below regions refused.regions reason (subst (λ (l : List Text). AreSaid l regions) refused.lines is.said) refused.said refused.fault
 text_not_refused bytes regions line reason is (inr (e, one, why)) = none regions (subst (λ (l : List Text). Pairwise Says l regions) e is.said.each) is.some
@@ -182,7 +182,7 @@ no_lines bytes line reason e refused = none refused.above (sym e ∙ refused.lin
     none [] h = absurd (cc)
     none (a ∷ above) h = absurd (cc)
 
-pub refusal_is_one : (bytes : Text) (line other : ℕ) (reason why : TableReason) → IsRefused bytes line reason → IsRefused bytes other why → (line ≡ other) × (reason ≡ why)
+pub refusal_is_one : (bytes : Text) (line other : ℕ) (reason why : TableReason) → IsListRefused bytes line reason → IsListRefused bytes other why → (line ≡ other) × (reason ≡ why)
 refusal_is_one bytes line other reason why (inl first) (inl second) = one_refused bytes line other reason why first second
 refusal_is_one bytes line other reason why (inl first) (inr second) = absurd (no_lines bytes line reason second.0 first)
 refusal_is_one bytes line other reason why (inr first) (inl second) = absurd (no_lines bytes other why first.0 second)

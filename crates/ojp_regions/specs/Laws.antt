@@ -2,19 +2,19 @@
 use Rattle.std.specs.Prelude.{◌≡◌, ℕ, List}
 use Rattle.ojp_values.specs.Texts.{Text}
 use Rattle.ojp_timetable.specs.declared.lines.TableReason.{TableReason}
-use Rattle.ojp_regions.specs.RegionsText.{IsRefused, IsText}
+use Rattle.ojp_regions.specs.RegionsText.{IsListRefused, IsText}
 use Rattle.ojp_regions.specs.declared.line.RegionLine.{RegionLine}
 
 -- a file is refused at one line and for one reason
 abbrev pub RefusalIsOne : Type 0
 RefusalIsOne =
-    (bytes : Text) (line other : ℕ) (reason why : TableReason) → IsRefused bytes line reason → IsRefused bytes other why
+    (bytes : Text) (line other : ℕ) (reason why : TableReason) → IsListRefused bytes line reason → IsListRefused bytes other why
     → (line ≡ other) × (reason ≡ why)
 
 -- the text of regions is not refused
 abbrev pub TextIsNotRefused : Type 0
 TextIsNotRefused =
-    (bytes : Text) (regions : List RegionLine) (line : ℕ) (reason : TableReason) → IsText bytes regions → IsRefused bytes line reason → ⊥
+    (bytes : Text) (regions : List RegionLine) (line : ℕ) (reason : TableReason) → IsText bytes regions → IsListRefused bytes line reason → ⊥
 
 -- a text is that of one list of regions
 abbrev pub TextIsOne : Type 0

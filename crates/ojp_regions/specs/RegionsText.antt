@@ -40,12 +40,12 @@ pub record IsRefusedLine (bytes : Text) (line : ℕ) (reason : TableReason) : Ty
   pub fault : IsFault regions text reason
 
 -- the text is refused at the line for the reason; one without a line is refused at line 1 for its form
-abbrev pub IsRefused : Text → ℕ → TableReason → Type 0
-IsRefused bytes line reason = IsRefusedLine bytes line reason ⊎ ((lines_of bytes ≡ []) × (line ≡ 1) × (reason ≡ LineForm))
+abbrev pub IsListRefused : Text → ℕ → TableReason → Type 0
+IsListRefused bytes line reason = IsRefusedLine bytes line reason ⊎ ((lines_of bytes ≡ []) × (line ≡ 1) × (reason ≡ LineForm))
 
 -- the line and the reason are those of the text; want of memory may come at any text
 abbrev pub IsRefusal : Text → RegionsRefused → Type 0
-IsRefusal bytes (At line reason) = IsRefused bytes line reason
+IsRefusal bytes (At line reason) = IsListRefused bytes line reason
 IsRefusal bytes NoMemory = Unit {0}
 
 -- the refusal of the line of that number

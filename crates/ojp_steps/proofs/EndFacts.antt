@@ -6,12 +6,12 @@ use Rattle.ojp_outside.specs.Causes.{Rests}
 use Rattle.ojp_outside.specs.Seen.{SinkView}
 use Rattle.ojp_steps.specs.Lent.{Lent, lent, Tells, TellsTrace}
 use Rattle.ojp_steps.specs.Failures.{line_of, text_of}
-use Rattle.ojp_steps.specs.Endings.{Ends, Concludes, EndsAs}
+use Rattle.ojp_steps.specs.Endings.{HasEnding, Concludes, EndsAs}
 use Rattle.ojp_steps.specs.declared.failures.Failure.{Failure}
 
 -- a command that told no trace
 pub ends_as : {E : Type 0} (done : Type 0) (cause : Failure → Type 0) (ended : Result (Unit {0}) Failure) (faults : Lent E SinkView) (status : ℕ)
-    → Ends done cause ended → Concludes ended faults status → EndsAs [] done cause faults status
+    → HasEnding done cause ended → Concludes ended faults status → EndsAs [] done cause faults status
 ends_as done cause (Ok nothing) faults status e c = inl (c.0, e, c.1)
 ends_as done cause (Err failure) faults status e c = inr (failure, c.0, e, c.1)
 
@@ -26,6 +26,6 @@ told_on (b ∷ trace) line seen old mid new traced later tells on rests =
 
 -- a command that told this trace
 pub ends_traced : {E : Type 0} (trace : Text) (done : Type 0) (cause : Failure → Type 0) (ended : Result (Unit {0}) Failure) (seen : E → SinkView) (old mid new : E) (status : ℕ)
-    → Ends done cause ended → TellsTrace (lent seen old mid) trace → (seen old).faults ≤ (seen mid).faults → Concludes ended (lent seen mid new) status → EndsAs trace done cause (lent seen old new) status
+    → HasEnding done cause ended → TellsTrace (lent seen old mid) trace → (seen old).faults ≤ (seen mid).faults → Concludes ended (lent seen mid new) status → EndsAs trace done cause (lent seen old new) status
 ends_traced trace done cause (Ok nothing) seen old mid new status e traced later c = inl (c.0, e, subst (λ (x : _). TellsTrace (lent seen old x) trace) (sym c.1) traced)
 ends_traced trace done cause (Err failure) seen old mid new status e traced later c = inr (failure, c.0, e, told_on trace (line_of (text_of failure)) seen old mid new traced later c.1 c.2)

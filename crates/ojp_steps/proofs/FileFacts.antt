@@ -6,7 +6,7 @@ use Rattle.ojp_outside.specs.Files.{IsContents}
 use Rattle.ojp_outside.specs.declared.store.TheConstants.{FILE_LIMIT}
 use Rattle.ojp_outside.specs.Causes.{Rose, Rests}
 use Rattle.ojp_timetable.specs.Tables.{Timetable}
-use Rattle.ojp_timetable.specs.TableText.{IsText, IsRefused, lines_of}
+use Rattle.ojp_timetable.specs.TableText.{IsText, IsTextRefused, lines_of}
 use Rattle.ojp_timetable.specs.declared.lines.TableReason.{TableReason}
 use Rattle.ojp_outside.specs.Seen.{StoreView}
 use Rattle.ojp_steps.specs.Lent.{Lent, before, after}
@@ -39,7 +39,7 @@ above_limit (Some x) files file bytes told is h =
     by_held (Some y) e h = let same : y ≡ bytes = cc in subst (λ (b : Text). FILE_LIMIT < length b) same h
 
 -- a text of a timetable is not refused
-text_or_refused : (bytes : Text) (table : Timetable) (line : ℕ) (reason : TableReason) → IsText bytes table → IsRefused bytes line reason → ⊥
+text_or_refused : (bytes : Text) (table : Timetable) (line : ℕ) (reason : TableReason) → IsText bytes table → IsTextRefused bytes line reason → ⊥
 text_or_refused bytes table line reason is refused =
     let within : line - 1 < length (lines_of bytes) + 1 = omega (arith, refused.counted, refused.within) in
     let none = is.passed.passed (line - 1) within in
@@ -67,7 +67,7 @@ module _ {F : Type 0} (file : Text) (store : Lent F StoreView) (bytes : Text) (r
       let short : length is.bytes ≤ FILE_LIMIT = is.within in
       omega (arith, ap length same, short, long)
 
-  pub accepted_or_refused : (table : Timetable) (line : ℕ) (reason : TableReason) → IsFileOf file store table → IsRefused bytes line reason → ⊥
+  pub accepted_or_refused : (table : Timetable) (line : ℕ) (reason : TableReason) → IsFileOf file store table → IsTextRefused bytes line reason → ⊥
   accepted_or_refused table line reason is refused =
       let same : is.bytes ≡ bytes = contents_are (before store).contents r.files file bytes is.bytes r.told r.held is.held in
       text_or_refused bytes table line reason (subst (λ (b : Text). IsText b table) same is.is_text) refused
@@ -75,4 +75,4 @@ module _ {F : Type 0} (file : Text) (store : Lent F StoreView) (bytes : Text) (r
   pub refused_or_accepted : (table : Timetable) (line : ℕ) (reason : TableReason) → IsRefusedFile file store line reason → IsText bytes table → ⊥
   refused_or_accepted table line reason is text =
       let same : is.bytes ≡ bytes = contents_are (before store).contents r.files file bytes is.bytes r.told r.held is.held in
-      text_or_refused bytes table line reason text (subst (λ (b : Text). IsRefused b line reason) same is.refused)
+      text_or_refused bytes table line reason text (subst (λ (b : Text). IsTextRefused b line reason) same is.refused)

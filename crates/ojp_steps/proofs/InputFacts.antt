@@ -4,7 +4,7 @@ use Rattle.std.proofs.KnownBytes.{Consumes-whole}
 use Rattle.ojp_values.specs.Texts.{Text}
 use Rattle.ojp_values.specs.declared.documents.Doc.{Doc}
 use Rattle.ojp_grammar.specs.Documents.{IsWanted, Spells}
-use Rattle.ojp_grammar.specs.Places.{IsRefused}
+use Rattle.ojp_grammar.specs.Places.{IsDocumentRefused}
 use Rattle.ojp_grammar.specs.declared.refusals.Reason.{Reason}
 use Rattle.ojp_grammar.specs.declared.refusals.Want.{Want}
 use Rattle.ojp_outside.specs.Seen.{SourceView}
@@ -16,7 +16,7 @@ module _ {I : Type 0} (want : Want) (input : Lent I SourceView) (bytes : Text) (
   pub reads : FailsToRead input → ⊥
   reads fails = rests_or_rose (before input).faults (after input).faults heard.rests fails.rose
 
-  pub spelled_or_refused : (doc : Doc) (at : ℕ) (reason : Reason) → IsDocumentOf want input doc → IsRefused want bytes at reason → ⊥
+  pub spelled_or_refused : (doc : Doc) (at : ℕ) (reason : Reason) → IsDocumentOf want input doc → IsDocumentRefused want bytes at reason → ⊥
   spelled_or_refused doc at reason is refused =
       let same : bytes ≡ is.bytes =
       told_is (λ (x : Text). x ≡ is.bytes) (before input).left bytes heard.told (Consumes-whole (before input).left (after input).left is.bytes (λ x. x ≡ is.bytes) is.taken is.at_end refl) in
@@ -24,4 +24,4 @@ module _ {I : Type 0} (want : Want) (input : Lent I SourceView) (bytes : Text) (
 
   pub refused_or_spelled : (doc : Doc) (at : ℕ) (reason : Reason) → IsNoDocument want input at reason → IsWanted want doc → Spells doc bytes → ⊥
   refused_or_spelled doc at reason is wanted spells =
-      (told_is (λ (x : Text). IsRefused want x at reason) (before input).left bytes heard.told is.refused).none doc wanted spells
+      (told_is (λ (x : Text). IsDocumentRefused want x at reason) (before input).left bytes heard.told is.refused).none doc wanted spells

@@ -8,7 +8,7 @@ use Rattle.ojp_values.specs.Texts.{Text}
 use Rattle.ojp_values.specs.declared.documents.Doc.{Doc}
 use Rattle.ojp_outside.specs.Causes.{Rose}
 use Rattle.ojp_grammar.specs.Documents.{IsWanted, Spells}
-use Rattle.ojp_grammar.specs.Places.{IsRefused}
+use Rattle.ojp_grammar.specs.Places.{IsDocumentRefused}
 use Rattle.ojp_grammar.specs.declared.refusals.Want.{Want}
 use Rattle.ojp_decode.specs.Progress.{Progress, reading, whole, over, spent}
 use Rattle.ojp_grammar.specs.Whole.{IsWhole}
@@ -228,8 +228,8 @@ end_err want fed reader refused refusal t gives e =
   where
     go : (p : Progress) (r : ReadRefused) → Took want fed p → Gives p (Err r) → Finishes want fed (Err (input_refusal r))
     go (reading w b) (At r) t g =
-        let here : IsRefused w b r.at r.reason = subst (λ reason. IsRefused w b r.at reason) (sym g.0) g.1 in
-        subst (λ (l : Text). IsRefused want l r.at r.reason) t.1 (subst (λ (x : Want). IsRefused x b r.at r.reason) t.0 here)
+        let here : IsDocumentRefused w b r.at r.reason = subst (λ reason. IsDocumentRefused w b r.at reason) (sym g.0) g.1 in
+        subst (λ (l : Text). IsDocumentRefused want l r.at r.reason) t.1 (subst (λ (x : Want). IsDocumentRefused x b r.at r.reason) t.0 here)
     go (reading w b) NoMemory t g = tt
     go (whole w b) r t g = absurd g
     go (over x) r t g = absurd t
@@ -282,10 +282,10 @@ module _ {I : Type 0} (want : Want) (input : Lent I SourceView) (mid : SourceVie
       gone : Consumes (before input).left (after input).left (h.fed ++ piece)
       gone = Consumes-trans (before input).left mid.left (after input).left h.fed piece h.taken c
 
-      by_left : (a b : Option Text) (at : ℕ) (reason : Reason) → Consumes a b (h.fed ++ piece) → ((more : Text) → IsRefused want ((h.fed ++ piece) ++ more) at reason) → IfSome a (λ bytes. IsRefused want bytes at reason)
+      by_left : (a b : Option Text) (at : ℕ) (reason : Reason) → Consumes a b (h.fed ++ piece) → ((more : Text) → IsDocumentRefused want ((h.fed ++ piece) ++ more) at reason) → IfSome a (λ bytes. IsDocumentRefused want bytes at reason)
       by_left None b at reason x g = tt
       by_left (Some bytes) None at reason x g = absurd x
-      by_left (Some bytes) (Some left) at reason x g = subst (λ (l : Text). IsRefused want l at reason) (sym x) (g left)
+      by_left (Some bytes) (Some left) at reason x g = subst (λ (l : Text). IsDocumentRefused want l at reason) (sym x) (g left)
 
       go : (r : ReadRefused) → FeedsAll want h.fed piece (Err r) new → ReadsAs want input (Err (input_refusal r))
       go NoMemory g = record { taken = (h.fed ++ piece, gone); calm = calm ∙ h.at_rest }
@@ -309,7 +309,7 @@ module _ {I : Type 0} (want : Want) (input : Lent I SourceView) (mid : SourceVie
       go : (result : Result Doc InputRefused) → Finishes want h.fed result → ReadsAs want input result
       go (Ok doc) g = record { bytes = h.fed; taken = all; at_end = e; end_seen = seen; spells = g.1; wanted = g.0; calm = calm ∙ h.at_rest }
       go (Err (refusals.At at reason)) g = record {
-        refused = Consumes-whole (before input).left (after input).left h.fed (λ bytes. IsRefused want bytes at reason) all e g;
+        refused = Consumes-whole (before input).left (after input).left h.fed (λ bytes. IsDocumentRefused want bytes at reason) all e g;
         taken = record { front = h.fed; last = []; taken = gone; undecided = h.undecided; within = omega arith };
         calm = calm ∙ h.at_rest;
       }

@@ -7,9 +7,9 @@ use Rattle.ojp_steps.specs.Failures.{status_of, text_of, line_of}
 use Rattle.ojp_steps.specs.declared.failures.Failure.{Failure}
 
 -- a command did what it is to do, or failed for a cause
-abbrev pub Ends : Type 0 → (Failure → Type 0) → Result (Unit {0}) Failure → Type 0
-Ends done cause (Ok nothing) = done
-Ends done cause (Err failure) = cause failure
+abbrev pub HasEnding : Type 0 → (Failure → Type 0) → Result (Unit {0}) Failure → Type 0
+HasEnding done cause (Ok nothing) = done
+HasEnding done cause (Err failure) = cause failure
 
 -- the status of a command that ended so, and the line of its failure; the count of faults of standard error did not fall
 abbrev pub Concludes : {E : Type 0} → Result (Unit {0}) Failure → Lent E SinkView → ℕ → Type 0

@@ -5,7 +5,7 @@ use Rattle.ojp_outside.specs.Causes.{Rose, Rests}
 use Rattle.ojp_outside.specs.Files.{IsContents}
 use Rattle.ojp_outside.specs.declared.store.TheConstants.{FILE_LIMIT}
 use Rattle.ojp_timetable.specs.Tables.{Timetable}
-use Rattle.ojp_timetable.specs.TableText.{IsText, IsRefused}
+use Rattle.ojp_timetable.specs.TableText.{IsText, IsTextRefused}
 use Rattle.ojp_timetable.specs.declared.lines.TableReason.{TableReason}
 use Rattle.ojp_outside.specs.Seen.{StoreView}
 use Rattle.ojp_steps.specs.Lent.{Lent, before, after}
@@ -46,7 +46,7 @@ pub record IsRefusedFile {F : Type 0} (file : Text) (store : Lent F StoreView) (
   pub bytes : Text
   pub held : IsContents (before store).contents file bytes
   pub within : length bytes ≤ FILE_LIMIT
-  pub refused : IsRefused bytes line reason
+  pub refused : IsTextRefused bytes line reason
   pub same : StandsAsBefore store
 
 -- how the reading of a timetable file ends

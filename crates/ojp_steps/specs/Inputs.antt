@@ -8,7 +8,7 @@ use Rattle.ojp_values.specs.declared.documents.Doc.TheVariants as docs
 use Rattle.ojp_outside.specs.Causes.{Rose, Rests}
 use Rattle.ojp_outside.specs.Known.{LosesPrefix}
 use Rattle.ojp_grammar.specs.Documents.{IsWanted, Spells}
-use Rattle.ojp_grammar.specs.Places.{IsRefused}
+use Rattle.ojp_grammar.specs.Places.{IsDocumentRefused}
 use Rattle.ojp_grammar.specs.Whole.{IsWhole}
 use Rattle.ojp_grammar.specs.declared.refusals.Reason.{Reason}
 use Rattle.ojp_grammar.specs.declared.refusals.Want.{Want}
@@ -45,7 +45,7 @@ pub record TakesToRefusal (want : Want) (old new : Option Text) : Type 0 where
 
 -- no wanted document is what the input had left, where it tells its bytes: at this place, for this reason
 pub record IsNoDocument {I : Type 0} (want : Want) (input : Lent I SourceView) (at : ℕ) (reason : Reason) : Type 0 where
-  pub refused : IfSome (before input).left (λ bytes. IsRefused want bytes at reason)
+  pub refused : IfSome (before input).left (λ bytes. IsDocumentRefused want bytes at reason)
   pub taken : TakesToRefusal want (before input).left (after input).left
   pub calm : (after input).faults ≡ (before input).faults
 

@@ -3,7 +3,7 @@ use Rattle.std.specs.Prelude.{◌≡◌, ◌≢◌, [], ◌++◌, Result, Ok, Er
 use Rattle.ojp_values.specs.Texts.{Text}
 use Rattle.ojp_values.specs.declared.documents.Doc.{Doc}
 use Rattle.ojp_grammar.specs.Documents.{IsWanted, Spells}
-use Rattle.ojp_grammar.specs.Places.{IsRefused}
+use Rattle.ojp_grammar.specs.Places.{IsDocumentRefused}
 use Rattle.ojp_grammar.specs.declared.refusals.Want.{Want}
 use Rattle.ojp_decode.specs.Progress.{Progress, reading, whole, over, spent}
 use Rattle.ojp_decode.specs.Feeding.{StaysRefused}
@@ -34,7 +34,7 @@ FeedsAll want fed piece (Err NoMemory) new = Unit {0}
 -- the bytes spell the document, or no wanted one
 abbrev pub Finishes : Want → Text → Result Doc InputRefused → Type 0
 Finishes want fed (Ok doc) = IsWanted want doc × Spells doc fed
-Finishes want fed (Err (refusals.At at reason)) = IsRefused want fed at reason
+Finishes want fed (Err (refusals.At at reason)) = IsDocumentRefused want fed at reason
 Finishes want fed (Err refusals.Failed) = ⊥
 Finishes want fed (Err refusals.NoMemory) = Unit {0}
 

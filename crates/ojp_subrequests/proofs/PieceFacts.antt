@@ -14,7 +14,7 @@ use Rattle.ojp_grammar.specs.Answering.{SpellsDelivery}
 use Rattle.ojp_grammar.specs.Documents.{items}
 use Rattle.ojp_grammar.specs.Items.{spell}
 use Rattle.ojp_grammar.specs.Laws.{OnePlace, OneSpelling}
-use Rattle.ojp_grammar.specs.Places.{IsRefused}
+use Rattle.ojp_grammar.specs.Places.{IsDocumentRefused}
 use Rattle.ojp_grammar.specs.Whole.{IsWhole}
 use Rattle.ojp_http.specs.declared.fed.Stage.{Stage}
 use Rattle.ojp_http.specs.declared.fed.Stage.TheVariants as stages

@@ -5,7 +5,7 @@ use Rattle.ojp_grammar.specs.declared.refusals.Reason.{Reason}
 use Rattle.ojp_grammar.specs.declared.refusals.Reason.TheVariants.{Truncated}
 use Rattle.ojp_grammar.specs.declared.refusals.Want.TheVariants as wants
 use Rattle.ojp_grammar.specs.Answering.{SpellsDelivery}
-use Rattle.ojp_grammar.specs.Places.{IsRefused}
+use Rattle.ojp_grammar.specs.Places.{IsDocumentRefused}
 use Rattle.ojp_grammar.specs.Whole.{IsWhole}
 use Rattle.ojp_http.specs.declared.fed.Stage.TheVariants.{Reading}
 use Rattle.ojp_http.specs.Asking.{HttpReply}
@@ -38,7 +38,7 @@ IsReadTo reader got = HasRead reader (reading wants.Delivery got) ⊎ (HasRead r
 
 -- the body may go on, or is whole: it is refused for no other reason than that it is cut
 abbrev pub MayGoOn : List ℕ → Type 0
-MayGoOn got = (at : ℕ) (reason : Reason) → IsRefused wants.Delivery got at reason → reason ≡ Truncated
+MayGoOn got = (at : ℕ) (reason : Reason) → IsDocumentRefused wants.Delivery got at reason → reason ≡ Truncated
 
 -- no delivery begins with the bytes
 abbrev pub BeginsNoDelivery : List ℕ → Type 0

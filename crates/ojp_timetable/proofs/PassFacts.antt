@@ -12,7 +12,7 @@ use Rattle.ojp_timetable.specs.Refusals.{IsLineRefusal, IsRefusal, refusal_of}
 use Rattle.ojp_timetable.specs.declared.lines.TableReason.TheVariants.{LineForm}
 use Rattle.ojp_timetable.specs.declared.refusals.LineRefused.{LineRefused}
 use Rattle.ojp_timetable.specs.declared.refusals.LineRefused.TheVariants.{Reason, NoMemory}
-use Rattle.ojp_timetable.specs.TableText.{ArePassed, IsRefused, lines_of, above_of, fault_at, fault_at_end, reason_of, with_line, with_said}
+use Rattle.ojp_timetable.specs.TableText.{ArePassed, IsTextRefused, lines_of, above_of, fault_at, fault_at_end, reason_of, with_line, with_said}
 use Rattle.ojp_timetable.specs.Said.{Said}
 
 -- the line that is next, and what is left
@@ -89,7 +89,7 @@ refused_here bytes n line more (Reason reason) next passed h =
 refused_here bytes n line more NoMemory next passed h = tt
 
 -- the end is refused where the file may not end there
-pub refused_at_end : (bytes : Text) (n : ℕ) → length (lines_of bytes) ≡ n → ArePassed (lines_of bytes) n → is_cut (above_of (lines_of bytes)) ≡ true → IsRefused bytes (n + 1) LineForm
+pub refused_at_end : (bytes : Text) (n : ℕ) → length (lines_of bytes) ≡ n → ArePassed (lines_of bytes) n → is_cut (above_of (lines_of bytes)) ≡ true → IsTextRefused bytes (n + 1) LineForm
 refused_at_end bytes n size passed cut =
     let e : n + 1 - 1 ≡ n = omega arith in
     record {

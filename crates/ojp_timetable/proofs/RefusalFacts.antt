@@ -6,7 +6,7 @@ use Rattle.std.proofs.lemmas.Bool.Decides.{nat_tests}
 use Rattle.std.proofs.Math.Nat.{eq-or-lt_of_le}
 use Rattle.ojp_values.specs.Texts.{Text}
 use Rattle.ojp_timetable.specs.Tables.{Timetable}
-use Rattle.ojp_timetable.specs.TableText.{IsRefused, IsText, fault_at, lines_of}
+use Rattle.ojp_timetable.specs.TableText.{IsTextRefused, IsText, fault_at, lines_of}
 use Rattle.ojp_timetable.specs.declared.lines.TableReason.{TableReason}
 
 is_below : (n m : ℕ) → nat_lt n m ≡ true → n < m
@@ -29,22 +29,22 @@ not_both : (o : Option TableReason) (reason : TableReason) → o ≡ None → o 
 not_both o reason none some = absurd (cc)
 
 -- no refusal comes above another
-not_above : (bytes : Text) (line other : ℕ) (reason why : TableReason) → IsRefused bytes line reason → IsRefused bytes other why → line < other → ⊥
+not_above : (bytes : Text) (line other : ℕ) (reason why : TableReason) → IsTextRefused bytes line reason → IsTextRefused bytes other why → line < other → ⊥
 not_above bytes line other reason why first second h =
     not_both (fault_at (lines_of bytes) (line - 1)) reason (second.above.passed (line - 1) (omega (arith, first.counted))) first.here
 
-one_line : (bytes : Text) (line other : ℕ) (reason why : TableReason) → IsRefused bytes line reason → IsRefused bytes other why → line ≡ other
+one_line : (bytes : Text) (line other : ℕ) (reason why : TableReason) → IsTextRefused bytes line reason → IsTextRefused bytes other why → line ≡ other
 one_line bytes line other reason why first second =
     neither line other (not_above bytes line other reason why first second) (not_above bytes other line why reason second first)
 
 some_is : (x y : TableReason) → Some x ≡ Some y → x ≡ y
 some_is x y e = cc
 
-pub one_refusal : (bytes : Text) (line other : ℕ) (reason why : TableReason) → IsRefused bytes line reason → IsRefused bytes other why → (line ≡ other) × (reason ≡ why)
+pub one_refusal : (bytes : Text) (line other : ℕ) (reason why : TableReason) → IsTextRefused bytes line reason → IsTextRefused bytes other why → (line ≡ other) × (reason ≡ why)
 one_refusal bytes line other reason why first second =
     let e = one_line bytes line other reason why first second in
     (e, some_is reason why (sym first.here ∙ (ap (λ (k : ℕ). fault_at (lines_of bytes) (k - 1)) e ∙ second.here)))
 
-pub text_not_refused : (bytes : Text) (table : Timetable) (line : ℕ) (reason : TableReason) → IsText bytes table → IsRefused bytes line reason → ⊥
+pub text_not_refused : (bytes : Text) (table : Timetable) (line : ℕ) (reason : TableReason) → IsText bytes table → IsTextRefused bytes line reason → ⊥
 text_not_refused bytes table line reason text refused =
     not_both (fault_at (lines_of bytes) (line - 1)) reason (text.passed.passed (line - 1) (omega (arith, refused.counted, refused.within))) refused.here

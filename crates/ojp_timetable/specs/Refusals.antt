@@ -3,7 +3,7 @@ use Rattle.std.specs.Prelude.{◌≡◌, ℕ, Some}
 use Rattle.ojp_values.specs.Texts.{Text}
 use Rattle.ojp_timetable.specs.Lines.{Above, no_lines}
 use Rattle.ojp_timetable.specs.Said.{Said}
-use Rattle.ojp_timetable.specs.TableText.{IsRefused, reason_of}
+use Rattle.ojp_timetable.specs.TableText.{IsTextRefused, reason_of}
 use Rattle.ojp_timetable.specs.declared.refusals.LineRefused.{LineRefused}
 use Rattle.ojp_timetable.specs.declared.refusals.LineRefused.TheVariants.{Reason, NoMemory as LineNoMemory}
 use Rattle.ojp_timetable.specs.declared.refusals.TableRefused.{TableRefused}
@@ -21,7 +21,7 @@ left_after above LineNoMemory = no_lines
 
 -- the line is the first that fails a check and the reason the first that it fails; want of memory may come at any text
 abbrev pub IsRefusal : Text → TableRefused → Type 0
-IsRefusal bytes (At line reason) = IsRefused bytes line reason
+IsRefusal bytes (At line reason) = IsTextRefused bytes line reason
 IsRefusal bytes NoMemory = Unit {0}
 
 -- the refusal of the line of that number

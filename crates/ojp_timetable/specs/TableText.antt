@@ -47,7 +47,7 @@ pub record ArePassed (lines : List Text) (n : ℕ) : Type 0 where
   pub passed : (k : ℕ) → k < n → fault_at lines k ≡ None
 
 -- the line, counted from 1, is the first that fails a check, and the reason is the first check that it fails
-pub record IsRefused (bytes : Text) (line : ℕ) (reason : TableReason) : Type 0 where
+pub record IsTextRefused (bytes : Text) (line : ℕ) (reason : TableReason) : Type 0 where
   pub above : ArePassed (lines_of bytes) (line - 1)
   pub here : fault_at (lines_of bytes) (line - 1) ≡ Some reason
   pub counted : 1 ≤ line

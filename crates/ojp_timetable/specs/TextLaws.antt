@@ -7,19 +7,19 @@ use Rattle.ojp_values.specs.declared.moments.TheConstants.{FIRST_DAY, LAST_DAY}
 use Rattle.ojp_timetable.specs.Tables.{Timetable}
 use Rattle.ojp_timetable.specs.Points.{AreWellPoints}
 use Rattle.ojp_timetable.specs.Said.{day_of}
-use Rattle.ojp_timetable.specs.TableText.{IsRefused, IsText}
+use Rattle.ojp_timetable.specs.TableText.{IsTextRefused, IsText}
 use Rattle.ojp_timetable.specs.declared.lines.TableReason.{TableReason}
 
 -- a file is refused at one line and for one reason
 abbrev pub RefusalIsOne : Type 0
 RefusalIsOne =
-    (bytes : Text) (line other : ℕ) (reason why : TableReason) → IsRefused bytes line reason → IsRefused bytes other why
+    (bytes : Text) (line other : ℕ) (reason why : TableReason) → IsTextRefused bytes line reason → IsTextRefused bytes other why
     → (line ≡ other) × (reason ≡ why)
 
 -- the text of a timetable is not refused
 abbrev pub TextIsNotRefused : Type 0
 TextIsNotRefused =
-    (bytes : Text) (table : Timetable) (line : ℕ) (reason : TableReason) → IsText bytes table → IsRefused bytes line reason → ⊥
+    (bytes : Text) (table : Timetable) (line : ℕ) (reason : TableReason) → IsText bytes table → IsTextRefused bytes line reason → ⊥
 
 -- a text is that of one timetable
 abbrev pub TableIsOne : Type 0

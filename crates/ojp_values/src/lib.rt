@@ -25,7 +25,7 @@ pub use kinds::{BadText, EventKind, Kind};
 pub use lists::List;
 pub use memory::NoMemory;
 pub use moments::{Day, FIRST_DAY, Instant, LAST_DAY, LAST_SECOND};
-pub use numbers::{read_duration, read_number};
+pub use numbers::{are_digits, is_plain, read_digits, read_duration, read_number};
 pub use replies::{Delivery, EventsReply, Fault, MultiReply, PointsReply, TripReply, TripResult};
 pub use texts::{Code, Label, Name, StopRef};
 pub use trips::{Event, Leg, Neighbour, Point, Trip};

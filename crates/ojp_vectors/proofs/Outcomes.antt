@@ -9,7 +9,7 @@ use Rattle.std.proofs.Math.Nat.{eq-or-lt_of_le}
 use Rattle.ojp_values.specs.declared.memory.NoMemory.{NoMemory}
 use Rattle.ojp_grammar.specs.declared.refusals.Want.{Want}
 use Rattle.ojp_grammar.specs.declared.refusals.Refused.{Refused}
-use Rattle.ojp_grammar.specs.Places.{IsRefused}
+use Rattle.ojp_grammar.specs.Places.{IsDocumentRefused}
 use Rattle.ojp_decode.specs.Progress.{Progress, reading, whole}
 use Rattle.ojp_decode.specs.Feeding.{StaysRefused, FeedsOn, FeedsBehind, trailing}
 use Rattle.ojp_decode.specs.Standing.{ReaderView, HasRead, Feeds}
@@ -24,8 +24,8 @@ use Rattle.ojp_vectors.specs.declared.case.CaseOutcome.TheVariants.{Document, At
 use Rattle.ojp_vectors.specs.Cases.{IsOutcome, outcome_by, Stated, stated, Holds, HoldBelow}
 
 -- what is refused whatever follows is refused as it is
-pub refused_now : (want : Want) (bytes : List ℕ) (refused : Refused) → StaysRefused want bytes refused → IsRefused want bytes refused.at refused.reason
-refused_now want bytes refused stays = subst (λ (l : List ℕ). IsRefused want l refused.at refused.reason) (append-nil bytes) (stays [])
+pub refused_now : (want : Want) (bytes : List ℕ) (refused : Refused) → StaysRefused want bytes refused → IsDocumentRefused want bytes refused.at refused.reason
+refused_now want bytes refused stays = subst (λ (l : List ℕ). IsDocumentRefused want l refused.at refused.reason) (append-nil bytes) (stays [])
 
 -- bytes behind a document are refused at its end
 pub behind_refused : (want : Want) (before behind : List ℕ) (refused : ReadRefused) (after : Progress) → behind ≢ []
@@ -33,14 +33,14 @@ pub behind_refused : (want : Want) (before behind : List ℕ) (refused : ReadRef
 behind_refused want before behind (refusals.At r) after some b =
     let e = (b.more some).0 in
     let same : r ≡ trailing (length before) = cc in
-    subst (λ (x : Refused). IsRefused want (before ++ behind) x.at x.reason) (sym same) (refused_now want (before ++ behind) (trailing (length before)) (b.stays some))
+    subst (λ (x : Refused). IsDocumentRefused want (before ++ behind) x.at x.reason) (sym same) (refused_now want (before ++ behind) (trailing (length before)) (b.stays some))
 behind_refused want before behind refusals.NoMemory after some b = tt
 
 -- a refusal while a document goes on is one of all the bytes
 pub on_refused : (want : Want) (before piece rest : List ℕ) (refused : ReadRefused) (after : Progress)
     → FeedsOn want before piece (Err refused) after → IfOk (outcome_by refused) (λ outcome. IsOutcome want (before ++ (piece ++ rest)) outcome)
 on_refused want before piece rest (refusals.At r) after f =
-    subst (λ (l : List ℕ). IsRefused want l r.at r.reason) (append_assoc before piece rest) (f.0.stays rest)
+    subst (λ (l : List ℕ). IsDocumentRefused want l r.at r.reason) (append_assoc before piece rest) (f.0.stays rest)
 on_refused want before piece rest refusals.NoMemory after f = tt
 
 -- a piece after which a document goes on was read behind the others

@@ -5,7 +5,7 @@ use Rattle.ojp_values.specs.declared.memory.NoMemory.{NoMemory}
 use Rattle.ojp_decode.specs.declared.fed.ReadRefused.{ReadRefused}
 use Rattle.ojp_decode.specs.declared.fed.ReadRefused.TheVariants as refusals
 use Rattle.ojp_grammar.specs.Whole.{IsWhole}
-use Rattle.ojp_grammar.specs.Places.{IsRefused}
+use Rattle.ojp_grammar.specs.Places.{IsDocumentRefused}
 use Rattle.ojp_vectors.specs.declared.case.Case.{Case}
 use Rattle.ojp_vectors.specs.declared.case.CaseOutcome.{CaseOutcome}
 use Rattle.ojp_vectors.specs.declared.case.CaseOutcome.TheVariants.{Document, At}
@@ -13,7 +13,7 @@ use Rattle.ojp_vectors.specs.declared.case.CaseOutcome.TheVariants.{Document, At
 -- the bytes spell a wanted document, or are refused at this place for this reason
 abbrev pub IsOutcome : Want → List ℕ → CaseOutcome → Type 0
 IsOutcome want bytes Document = IsWhole want bytes
-IsOutcome want bytes (At at reason) = IsRefused want bytes at reason
+IsOutcome want bytes (At at reason) = IsDocumentRefused want bytes at reason
 
 -- bytes, and what they are stated to be
 pub record Stated : Type 0 where

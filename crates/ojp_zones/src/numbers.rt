@@ -2,7 +2,7 @@
 ghost use Rattle.std.specs.Prelude.{◌≡◌, ◌≤◌, IfSome};
 ghost use Rattle.ojp_zones.specs.Numbers.{is_hour, is_number, is_pair, number_if};
 
-use ojp_values::numbers::{are_digits, is_plain, read_digits};
+use ojp_values::{are_digits, is_plain, read_digits};
 
 /// The number from `low` to `high`, if the text is one without leading zeros.
 #[tactic(auto, unfolding(crate::specs::Numbers::is_number))]

@@ -2,7 +2,7 @@
 
 ghost use Rattle.std.specs.Prelude.{◌≡◌};
 ghost use Rattle.ojp_steps.specs.Lent.{lent};
-ghost use Rattle.ojp_steps.specs.Endings.{Ends};
+ghost use Rattle.ojp_steps.specs.Endings.{HasEnding};
 ghost use Rattle.ojp_cli.specs.Checks.{ask_name, delivery_name, element_name, Checked, CheckFails};
 
 use ojp_grammar::refusals::Want;
@@ -20,7 +20,7 @@ pub(crate) fn check<I: Source, O: Sink>(
 ) -> Result<(), Failure<'static>>
     ensures { let lent_input = lent I.seen input.old input.new in
         let lent_output = lent O.seen output.old output.new in
-        Ends (Checked lent_input lent_output) (CheckFails lent_input lent_output) result }
+        HasEnding (Checked lent_input lent_output) (CheckFails lent_input lent_output) result }
 {
     let document = match read_document(alloc, Want::Either, input) {
         Ok(document) => document,

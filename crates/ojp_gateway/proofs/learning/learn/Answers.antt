@@ -1,6 +1,6 @@
 use Rattle.std.proofs.Common.{◌≡◌, ◌<◌, ◌≤◌, ◌++◌, ◌∷◌, [], ◌∙◌, List, Err, length, refl, sym, subst, arith, rules}
 use Rattle.ojp_exchange.specs.declared.region_points.RegionPoints.{RegionPoints}
-use Rattle.ojp_exchange.specs.Joins.{AreWellLists, IsJoined, IsRefused}
+use Rattle.ojp_exchange.specs.Joins.{AreWellLists, IsJoined, JoinFails}
 use Rattle.ojp_links.specs.Seen.{Fixed}
 use Rattle.ojp_subrequests.specs.declared.subreply.BeginRefused.TheVariants as begins
 use Rattle.ojp_turns.proofs.PollFacts.{keeps_on, keeps_self}
@@ -96,7 +96,7 @@ returns g c =
       learns = record {
         lists = c.asking.lists.items;
         heard = heard (g.L.Links.seen c.args.links.now) c.asking.region c.asking.lists.items whole c.asking.invariant.lists;
-        refused = subst (λ (ls : List RegionPoints). IsRefused ls c.in-Err.reason) c.as_slice.ensures.value c.in-Err.ensures.refused;
+        refused = subst (λ (ls : List RegionPoints). JoinFails ls c.in-Err.reason) c.as_slice.ensures.value c.in-Err.ensures.refused;
         some = λ e. c.in_default.not-NoMemory (cc);
       };
     }

@@ -2,7 +2,7 @@ use Rattle.std.proofs.Common.{◌≡◌, ◌+◌, ℕ, take, drop, sym, ◌∙�
 use Rattle.std.specs.Prelude.{None}
 use Rattle.ojp_timetable.specs.Lines.{Above, no_lines}
 use Rattle.ojp_timetable.specs.Checks.{is_cut, read_line}
-use Rattle.ojp_timetable.specs.TableText.{ArePassed, IsRefused, above_of, lines_of, reason_of, with_line}
+use Rattle.ojp_timetable.specs.TableText.{ArePassed, IsTextRefused, above_of, lines_of, reason_of, with_line}
 use Rattle.ojp_timetable.specs.Refusals.{IsLineRefusal, IsRefusal, refusal_of}
 use Rattle.ojp_timetable.specs.declared.refusals.TableRefused.{TableRefused}
 use Rattle.ojp_timetable.specs.declared.lines.TableReason.TheVariants.{LineForm}
@@ -63,7 +63,7 @@ returns-then-is_cut-clause-refused c =
     let read = all_read all n (inv.left ∙ no_text c.loop-rest.rest.now (sym c.is_empty.ensures ∙ c.loop-rest-test.false)) inv.within in
     let made : c.loop-rest.above ≡ above_of all = inv.made ∙ ap above_of read.1 in
     let cut = ap is_cut (sym made) ∙ (sym c.is_cut.ensures ∙ c.if-is_cut.true) in
-    subst (λ (k : ℕ). IsRefused c.args.bytes.now (k + 1) LineForm) (sym c.lines.ensures) (refused_at_end c.args.bytes.now n read.0 inv.passed cut)
+    subst (λ (k : ℕ). IsTextRefused c.args.bytes.now (k + 1) LineForm) (sym c.lines.ensures) (refused_at_end c.args.bytes.now n read.0 inv.passed cut)
 
 pub returns-clause-passed : goal.returns-clause-passed
 returns-clause-passed c =

@@ -1,7 +1,7 @@
 use Rattle.std.proofs.Common.{refl, ◌∙◌}
 use Rattle.ojp_http.specs.declared.refusal.Refusal.TheVariants as refusals
 use Rattle.ojp_http.specs.declared.machine.Place.TheVariants.{Trailing}
-use Rattle.ojp_http.specs.Bodies.{ReadsTrailer, Ends}
+use Rattle.ojp_http.specs.Bodies.{ReadsTrailer, EndsHere}
 use Rattle.ojp_http.proofs.Stepping.{open_at, few_lines, scanned, grown, ready_more, trailer_more, trailer_found, trailer_refused, begins_refused}
 use Rattle.ojp_http.proofs.machine.Framing.step_trailer.Goals as goal
 
@@ -29,7 +29,7 @@ returns-in-Ok-Some c =
 pub returns-in-Err : goal.returns-in-Err
 returns-in-Err c =
     trailer_refused c.args.self.now c.args.byte _ c.in-Err.refusal c.requires.place (c.deref.ensures.value ∙ c.in-Ok.ensures.kept)
-    (begins_refused ReadsTrailer (λ t. t.0) 65 refusals.Chunk refusals.Chunk (λ t. Ends) _ c.in-Err.refusal c.in-Err.ensures)
+    (begins_refused ReadsTrailer (λ t. t.0) 65 refusals.Chunk refusals.Chunk (λ t. EndsHere) _ c.in-Err.refusal c.in-Err.ensures)
 
 pub returns-in-Ok-None : goal.returns-in-Ok-None
 returns-in-Ok-None c =
