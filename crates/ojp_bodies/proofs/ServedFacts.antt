@@ -25,7 +25,7 @@ use Rattle.ojp_http.proofs.WrittenRequests.{body_is_only}
 use Rattle.ojp_bodies.specs.declared.requests.Declined.{Declined}
 use Rattle.ojp_bodies.specs.declared.requests.Declined.TheVariants as declined
 use Rattle.ojp_bodies.specs.Reading.{IsAsked, TakesAsk}
-use Rattle.ojp_bodies.specs.Writing.{Declines, GivesUp, Refuses, TellsPlace, WritesDelivery}
+use Rattle.ojp_bodies.specs.Writing.{Declines, Delivers, GivesUp, Refuses, TellsPlace, WritesDelivery}
 
 -- ---- what was read asks something, or not
 
@@ -59,6 +59,12 @@ module _ (Relates : Ask → Delivery → Type 0) (old new : Wire) where
   -- an ask for which there was no memory
   pub serves_without : (ask : Ask) (how : Served) → TakesAsk old.input new.input (Ok ask) → GivesUp old.output new.output how → Serves (AnswersBody Relates) old new how
   serves_without ask how takes gives = gives_up how (takes.calm (λ q. cc)) gives
+
+  -- an ask for whose answer there was memory, whether or not there was for its document
+  pub serves_delivery : (ask : Ask) (delivery : Delivery) (how : Served) → TakesAsk old.input new.input (Ok ask) → Relates ask delivery → Delivers delivery old.output new.output how
+      → Serves (AnswersBody Relates) old new how
+  serves_delivery ask delivery how takes relates (inl writes) = serves_delivered ask delivery how takes relates writes
+  serves_delivery ask delivery how takes relates (inr gives) = serves_without ask how takes gives
 
   refused_http : (refusal : HttpRefusal) (how : Served) → TakesAsk old.input new.input (Err (declined.Http refusal)) → Refuses refusal old.output new.output how → Serves (AnswersBody Relates) old new how
   refused_http refusal how takes (inl (is, read, same)) =

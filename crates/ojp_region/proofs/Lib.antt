@@ -1,5 +1,3 @@
-pub mod AskFacts
 pub mod BoundFacts
 pub mod PairFacts
 pub mod PointListFacts
-pub mod ServedFacts

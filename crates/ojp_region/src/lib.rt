@@ -2,7 +2,6 @@
 #![tactic(auto)]
 
 mod answers;
-mod bodies;
 mod serving;
 mod trips;
 

@@ -5,12 +5,13 @@ ghost use Rattle.ojp_outside.specs.Causes.{Rests};
 ghost use Rattle.ojp_grammar.specs.Answering.{AnswersBody};
 ghost use Rattle.ojp_http.specs.Asking.{ReadsNoFurther};
 ghost use Rattle.ojp_http.specs.Connections.{Serves, wire};
+ghost use Rattle.ojp_bodies.specs.Reading.{IsAsked};
 ghost use Rattle.ojp_scan.specs.Scans.{IsMadeFor};
 ghost use Rattle.ojp_timetable.specs.Answers.{RegionAnswers};
-ghost use Rattle.ojp_region.specs.Requests.{IsAsked};
 
-use crate::bodies::answer_body;
-use ojp_http::{HttpRefusal, Served, give_up, read_request, refuse, respond};
+use crate::answers::answer;
+use ojp_bodies::{decline, deliver, take_ask};
+use ojp_http::{Served, give_up};
 use ojp_outside::{Sink, Source};
 use ojp_scan::Scan;
 use ojp_timetable::Timetable;
@@ -36,15 +37,11 @@ pub fn serve_one<I: Source, O: Sink>(
         → (result ≡ Served.Answered 200) ⊎ (result ≡ Served.NoMemory) }
     ensures taken { ReadsNoFurther (I.seen input.old).left (I.seen input.new).left }
 {
-    match read_request(alloc, input) {
-        Ok(body) => match answer_body(alloc, table, scan, body.as_slice()) {
-            Ok(response) => respond(response.status, response.text.written(), output),
+    match take_ask(alloc, input) {
+        Ok(ask) => match answer(alloc, table, scan, &ask) {
+            Ok(delivery) => deliver(alloc, delivery, output),
             Err(NoMemory) => give_up(output),
         },
-        Err(refusal) => match refusal {
-            HttpRefusal::ReadFault => Served::ReadFault,
-            HttpRefusal::NoMemory => give_up(output),
-            _ => refuse(refusal, output),
-        },
+        Err(declined) => decline(alloc, declined, output),
     }
 }
