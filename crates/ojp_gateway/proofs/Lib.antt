@@ -1,6 +1,7 @@
 pub mod NamedFacts
 pub mod SeekFacts
 pub mod PointFacts
+pub mod BookFacts
 pub mod AnswerFacts
 pub mod WellFacts
 pub mod HearFacts

@@ -27,7 +27,7 @@ use Rattle.ojp_steps.proofs.FileFacts.{rests_or_rose, told_is, opens, long_or_sh
 use Rattle.ojp_online.specs.Added.{as_added, HasFailedNone}
 use Rattle.ojp_online.specs.RegionFiles.{IsFileOf, IsRefusedFile}
 use Rattle.ojp_online.specs.Gateways.{GatewayServed, GatewayFails, GatewayIsDue, MakeBook, too_long, no_regions, no_book, all_served}
-use Rattle.ojp_online.proofs.BookFacts.{joined_or_refused}
+use Rattle.ojp_gateway.proofs.BookFacts.{joined_or_refused}
 
 -- ---- the file
 

@@ -4,7 +4,6 @@ pub mod HearFacts
 pub mod AskFacts
 pub mod WidenFacts
 pub mod PassFacts
-pub mod BookFacts
 pub mod LearnFacts
 pub mod AskDue
 pub mod GatewayDue

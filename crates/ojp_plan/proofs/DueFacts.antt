@@ -25,7 +25,7 @@ use Rattle.ojp_steps.proofs.FileFacts.{rests_or_rose, told_is}
 use Rattle.ojp_steps.proofs.InputFacts.{reads, spelled_or_refused, refused_or_spelled}
 use Rattle.ojp_plan.specs.Files.{AreTextsOf, IsTextOf, MakesBook, MakesNoBook, StopsAt}
 use Rattle.ojp_plan.specs.Plans.{ComesTo, IsGood, IsTold, PlanFails, PlanIsDue, Planned, too_long, no_table, no_book, no_request, an_answer}
-use Rattle.ojp_plan.proofs.BookFacts.{joined_or_refused}
+use Rattle.ojp_gateway.proofs.BookFacts.{joined_or_refused}
 
 -- ---- files that are told
 

@@ -2,5 +2,4 @@ pub mod OrderFacts
 pub mod ReadFacts
 pub mod ReadyFacts
 pub mod PlanFacts
-pub mod BookFacts
 pub mod DueFacts
