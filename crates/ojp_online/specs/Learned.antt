@@ -1,17 +1,9 @@
 -- How a command fails that learned no book.
-use Rattle.ojp_exchange.specs.declared.refusals.BookRefused.{BookRefused}
-use Rattle.ojp_exchange.specs.declared.refusals.BookRefused.TheVariants as books
 use Rattle.ojp_gateway.specs.declared.learning.LearnRefused.{LearnRefused}
 use Rattle.ojp_gateway.specs.declared.learning.LearnRefused.TheVariants as refusals
+use Rattle.ojp_steps.specs.Failures.{failure_of_book}
 use Rattle.ojp_steps.specs.declared.failures.Failure.{Failure}
 use Rattle.ojp_steps.specs.declared.failures.Failure.TheVariants as failures
-
--- regions that make no book
-abbrev pub failure_of_book : BookRefused → Failure
-failure_of_book (books.TwiceRegion code) = failures.Twice code
-failure_of_book books.TooMany = failures.TooMany
-failure_of_book (books.Disagree point left right) = failures.Disagree point left right
-failure_of_book books.NoMemory = failures.Memory
 
 -- the first region that failed, or regions that make no book
 abbrev pub failure_of_learning : LearnRefused → Failure

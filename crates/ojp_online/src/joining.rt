@@ -7,16 +7,15 @@ ghost use Rattle.ojp_steps.specs.Lent.{lent};
 ghost use Rattle.ojp_steps.specs.Serving.{seen_as};
 ghost use Rattle.ojp_online.specs.Added.{HasRejectedNoneTold};
 ghost use Rattle.ojp_online.specs.Gateways.{GatewayServed, GatewayFails};
-ghost use Rattle.ojp_online.specs.Learned.{failure_of_book, failure_of_learning};
+ghost use Rattle.ojp_online.specs.Learned.{failure_of_learning};
 
 use crate::adding::add_regions;
 use crate::files::read_region_file;
 use crate::serving::serve_gateway;
-use ojp_exchange::BookRefused;
 use ojp_gateway::{LearnRefused, learn_waiting};
 use ojp_links::{Runtime, WaitLinks};
 use ojp_outside::{Doors, Sink, Store};
-use ojp_steps::failures::Failure;
+use ojp_steps::failures::{Failure, failure_of_book};
 use ojp_steps::files::failure_of;
 use ojp_steps::serving::{Listening, NotServed};
 use ojp_values::NoMemory;
@@ -73,17 +72,5 @@ fn failure_of_learning(refused: LearnRefused) -> Failure<'static>
         LearnRefused::Region(code) => Failure::Region { code },
         LearnRefused::Book(reason) => failure_of_book(reason),
         LearnRefused::NoMemory => Failure::Memory,
-    }
-}
-
-/// The failure of a command whose regions make no book.
-fn failure_of_book(reason: BookRefused) -> Failure<'static>
-    ensures { result ≡ failure_of_book reason }
-{
-    match reason {
-        BookRefused::TwiceRegion(code) => Failure::Twice { code },
-        BookRefused::TooMany => Failure::TooMany,
-        BookRefused::Disagree { point, left, right } => Failure::Disagree { point, left, right },
-        BookRefused::NoMemory => Failure::Memory,
     }
 }

@@ -79,13 +79,6 @@ abbrev pub reason_of_opening : OpenRefused → BookRefused
 reason_of_opening (opens.TwiceRegion code) = refusals.TwiceRegion code
 reason_of_opening opens.NoMemory = refusals.NoMemory
 
--- the failure of a command whose regions make no book
-abbrev pub failure_of_book : BookRefused → Failure
-failure_of_book (refusals.TwiceRegion code) = Twice code
-failure_of_book refusals.TooMany = TooMany
-failure_of_book (refusals.Disagree point left right) = Disagree point left right
-failure_of_book refusals.NoMemory = Memory
-
 -- how the reading of the files ends: all were accepted, and the links are not open yet; or why not
 abbrev pub ReadsFiles : {F : Type 0} → List Text → Lent F FilesView → Result (Unit {0}) Failure → Type 0
 ReadsFiles names files (Ok nothing) = AreTextsOf (before files).store names (after files).tables × ((after files).is_open ≡ false)

@@ -4,7 +4,7 @@ ghost use Rattle.std.specs.Prelude.{◌≡◌, ◌≤◌, ℕ, false, List, map,
 ghost use Rattle.ojp_timetable.specs.Tables.{Timetable};
 ghost use Rattle.ojp_links_mem.specs.Files.{HasReadNone, files_seen, links_seen};
 ghost use Rattle.ojp_steps.specs.Lent.{lent};
-ghost use Rattle.ojp_plan.specs.Files.{failure_of_book, reason_of_opening};
+ghost use Rattle.ojp_plan.specs.Files.{reason_of_opening};
 ghost use Rattle.ojp_plan.specs.Ready.{IsLearnedOf, IsOpenOver, LearnsOf, OpensOver, Prepares};
 
 use crate::reading::read_files;
@@ -13,7 +13,7 @@ use ojp_gateway::{LearnRefused, learn_paced};
 use ojp_links::Links;
 use ojp_links_mem::{FileLinks, OpenRefused};
 use ojp_outside::Store;
-use ojp_steps::failures::Failure;
+use ojp_steps::failures::{Failure, failure_of_book};
 use std::alloc::Global;
 
 /// Reads the files, learns the book of their regions, and counts asks from 1 in the order.
@@ -36,7 +36,7 @@ pub(crate) fn prepare<'a, F: Store + Drop>(
             files.renumber(order);
             Ok(book)
         }
-        Err(reason) => Err(failure_of(reason)),
+        Err(reason) => Err(failure_of_book(reason)),
     }
 }
 
@@ -86,17 +86,5 @@ fn learn_book<F: Store + Drop>(alloc: Global, files: &mut FileLinks<F>) -> Resul
         Err(LearnRefused::NoMemory) => Err(BookRefused::NoMemory),
         // Counts of faults rise by rejections alone here, and nothing is rejected.
         Err(LearnRefused::Region(_)) => unreachable!(),
-    }
-}
-
-/// The failure of a command whose regions make no book.
-fn failure_of<'a>(reason: BookRefused) -> Failure<'a>
-    ensures { result ≡ failure_of_book reason }
-{
-    match reason {
-        BookRefused::TwiceRegion(code) => Failure::Twice { code },
-        BookRefused::TooMany => Failure::TooMany,
-        BookRefused::Disagree { point, left, right } => Failure::Disagree { point, left, right },
-        BookRefused::NoMemory => Failure::Memory,
     }
 }

@@ -4,6 +4,8 @@ use Rattle.std.specs.Fmt.{decimal}
 use Rattle.ojp_values.specs.Texts.{Text}
 use Rattle.ojp_timetable.specs.Views.{reason_words}
 use Rattle.ojp_grammar.specs.Reasons.{refusal_text}
+use Rattle.ojp_exchange.specs.declared.refusals.BookRefused.{BookRefused}
+use Rattle.ojp_exchange.specs.declared.refusals.BookRefused.TheVariants as books
 use Rattle.ojp_steps.specs.declared.failures.Failure.{Failure}
 use Rattle.ojp_steps.specs.declared.failures.Failure.TheVariants.{Document, Words, Unread, TooLong, Input, Output, Memory, Line, Twice, TooMany, Disagree, Region, Doors}
 
@@ -58,3 +60,10 @@ text_of TooMany = codes "too many"
 text_of (Disagree point left right) = dispute_text point left right
 text_of (Region code) = region_text code
 text_of Doors = codes "doors"
+
+-- the failure of a command whose regions make no book
+abbrev pub failure_of_book : BookRefused → Failure
+failure_of_book (books.TwiceRegion code) = Twice code
+failure_of_book books.TooMany = TooMany
+failure_of_book (books.Disagree point left right) = Disagree point left right
+failure_of_book books.NoMemory = Memory

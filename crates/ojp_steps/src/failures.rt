@@ -6,10 +6,11 @@ ghost use Rattle.std.specs.Io.KnownBytes.{Appends};
 ghost use Rattle.ojp_outside.specs.Causes.{Rests};
 ghost use Rattle.ojp_grammar.specs.Reasons.{refusal_text};
 ghost use Rattle.ojp_steps.specs.Lent.{lent, Tells};
-ghost use Rattle.ojp_steps.specs.Failures.{dispute_text, line_of, refused_line_text, region_text, status_of, text_of, twice_text};
+ghost use Rattle.ojp_steps.specs.Failures.{dispute_text, failure_of_book, line_of, refused_line_text, region_text, status_of, text_of, twice_text};
 ghost use Rattle.ojp_steps.specs.Endings.{Concludes};
 
 use itoa::Buffer;
+use ojp_exchange::BookRefused;
 use ojp_grammar::refusals::Reason;
 use ojp_outside::{Sink, put_parts};
 use ojp_timetable::TableReason;
@@ -85,6 +86,18 @@ impl Failure<'_> {
             Failure::Region { .. } => 8,
             Failure::Doors => 9,
         }
+    }
+}
+
+/// The failure of a command whose regions make no book.
+pub fn failure_of_book(reason: BookRefused) -> Failure<'static>
+    ensures { result ≡ failure_of_book reason }
+{
+    match reason {
+        BookRefused::TwiceRegion(code) => Failure::Twice { code },
+        BookRefused::TooMany => Failure::TooMany,
+        BookRefused::Disagree { point, left, right } => Failure::Disagree { point, left, right },
+        BookRefused::NoMemory => Failure::Memory,
     }
 }
 
