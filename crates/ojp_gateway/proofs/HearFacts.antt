@@ -130,7 +130,7 @@ means_by old mid new s at now (ends.Heard delivery) h p told failed =
       fits = subst (λ (e : Expect). FitsExpected e delivery) h.expects told.fits;
       answers = λ tables tells table is.
           subst (λ (e : Expect). RegionAnswers table (ask_of e) delivery) h.expects
-          (told.answers tables (ap (λ (f : Fixed). f.servers) h.keeps.fixed ∙ tells.servers) table (ap (slice_get tables) h.region ∙ is));
+          (told.answers tables (ap (λ (f : Fixed). f.servers) h.keeps.fixed ∙ tells) table (ap (slice_get tables) h.region ∙ is));
     }
 means_by old mid new s at now ends.Failed h p told failed =
     subst (λ (region : ℕ). Rose (old.faults region) (new.faults region)) h.region (rose_from (old.faults at.region) (mid.faults at.region) (new.faults at.region) (h.keeps.faults at.region) failed)

@@ -76,7 +76,7 @@ list_of old mid region s delivery points list keeps asks replied is code same =
           (subst (AreWellPoints (code_at old region)) (sym same) (record { few = fits.0; each = fits.1; bounded = well_points points well; rising = fits.2 }));
       told = λ tables tells table at.
           let at_s : slice_get tables s.region ≡ Some table = ap (slice_get tables) asks.0 ∙ at in
-          let answers = subst (λ (e : Expect). RegionAnswers table (ask_of e) delivery) asks.1 (replied.answers tables (tells_on old mid tables keeps tells) table at_s) in
+          let answers = subst (λ (e : Expect). RegionAnswers table (ask_of e) delivery) asks.1 (replied.answers tables (tells_on old mid tables keeps tells).servers table at_s) in
           let both : deliveries.Points (points_replies.Points points) ≡ deliveries.Points (points_replies.Points table.points) = sym is ∙ answers in
           same ∙ same_points points table.points both;
     }

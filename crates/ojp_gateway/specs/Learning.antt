@@ -36,12 +36,17 @@ pub record IsAlone (s : SubView) (v : View) : Type 0 where
   pub held : IsHeldIn s v
   pub only : (key : ℕ) → key ≢ s.key → v.live key ≡ None
 
--- the delivery was heard in a whole reply and fits; where timetables are told, it is the answer of the region's
+-- where servers are told, the delivery is the answer of the timetable of the region's server to the ask
+abbrev pub IsServedBy : View → ℕ → Ask → Delivery → Type 0
+IsServedBy v region ask delivery =
+    (tables : List Timetable) → v.fixed.servers ≡ Some tables → (table : Timetable) → slice_get tables region ≡ Some table → RegionAnswers table ask delivery
+
+-- the delivery was heard in a whole reply and fits, and where servers are told, it is its server's answer
 pub record IsReplied (v : View) (s : SubView) (delivery : Delivery) : Type 0 where
   pub bytes : List ℕ
   pub reply : IsReplyOf bytes delivery
   pub fits : FitsExpected s.expect delivery
-  pub answers : (tables : List Timetable) → TellsTables v tables → (table : Timetable) → slice_get tables s.region ≡ Some table → RegionAnswers table (ask_of s.expect) delivery
+  pub answers : IsServedBy v s.region (ask_of s.expect) delivery
 
 -- what the end of a subrequest means
 abbrev pub EndMeans : View → View → SubView → SubEnd → Type 0

@@ -86,8 +86,9 @@ fn hear_resting<L: PacedLinks>(links: &mut L, sub: &mut Subreply) -> SubEnd
     }
 }
 
-// Polls the subrequest until it is over, and waits where nothing came.
-fn hear_waiting<R: Runtime, L: WaitLinks>(rt: &R, links: &mut L, sub: &mut Subreply) -> SubEnd
+/// Polls the subrequest, which is all that is live, until it is over, and waits where nothing came. It may wait; its
+/// promise holds if it returns.
+pub fn hear_waiting<R: Runtime, L: WaitLinks>(rt: &R, links: &mut L, sub: &mut Subreply) -> SubEnd
     requires { IsAlone sub.old (L.seen links.old) }
     ensures { Hears (L.seen links.old) (L.seen links.new) sub.old result }
 {

@@ -1,6 +1,5 @@
 pub mod WellFacts
 pub mod AddFacts
-pub mod HearFacts
 pub mod AskFacts
 pub mod WidenFacts
 pub mod PassFacts

@@ -12,12 +12,12 @@ use Rattle.ojp_grammar.specs.declared.refusals.Reason.{Reason}
 use Rattle.ojp_grammar.specs.declared.refusals.Want.TheVariants.{Request}
 use Rattle.ojp_links.specs.Replies.{IsOfKind}
 use Rattle.ojp_links.specs.Seen.{View}
+use Rattle.ojp_gateway.specs.Learning.{IsServedBy}
 use Rattle.ojp_steps.specs.Lent.{Lent, before, after, IsUnused, Gains, GainsInPart}
 use Rattle.ojp_steps.specs.Inputs.{IsDocumentOf, IsNoDocument, FailsToRead, IsReadInPart, IsHeard}
 use Rattle.ojp_steps.specs.declared.failures.Failure.{Failure}
 use Rattle.ojp_steps.specs.declared.failures.Failure.TheVariants.{Document, Input, Output, Memory, Region}
 use Rattle.ojp_online.specs.Added.{station_at, HasFailed, HasFailedNone}
-use Rattle.ojp_online.specs.Heard.{IsServedBy}
 
 -- the code of the one link
 abbrev pub one_code : Text

@@ -5,11 +5,11 @@ ghost use Rattle.ojp_outside.specs.Causes.{Rose};
 ghost use Rattle.ojp_values.specs.Limits.{IsWellAsk};
 ghost use Rattle.ojp_links.specs.Seen.{NoneLive};
 ghost use Rattle.ojp_links.specs.Calls.{Keeps};
-ghost use Rattle.ojp_gateway.specs.Learning.{IsAlone};
-ghost use Rattle.ojp_online.specs.Heard.{EndsHeard, IsHeard, RejectsNoneServed};
+ghost use Rattle.ojp_online.specs.Heard.{IsHeard, RejectsNoneServed};
 
+use ojp_gateway::hear_waiting;
 use ojp_links::{Runtime, WaitLinks};
-use ojp_subrequests::{BeginRefused, SubEnd, SubPoll, Subreply};
+use ojp_subrequests::{BeginRefused, SubEnd, Subreply};
 use ojp_values::{Ask, Delivery};
 use std::alloc::Global;
 
@@ -30,28 +30,9 @@ pub(crate) fn ask_server<R: Runtime, L: WaitLinks>(
     ensures rejections { RejectsNoneServed (L.seen links.old) (L.seen links.new) }
 {
     let mut sub = Subreply::begin(alloc, links, 0, ask, false)?;
-    match hear(rt, links, &mut sub) {
+    match hear_waiting(rt, links, &mut sub) {
         SubEnd::Heard(delivery) => Ok(delivery),
         SubEnd::Failed => Err(BeginRefused::Failed),
         SubEnd::NoMemory => Err(BeginRefused::NoMemory),
     }
-}
-
-/// Polls the subrequest until it is over. Where nothing came it waits before the next poll.
-fn hear<R: Runtime, L: WaitLinks>(rt: &R, links: &mut L, sub: &mut Subreply) -> SubEnd
-    requires { IsAlone sub.old (L.seen links.old) }
-    ensures { EndsHeard (L.seen links.old) (L.seen links.new) sub.old result }
-{
-    'hearing: for _ in rt.forever() {
-        match sub.poll(links) {
-            SubPoll::Pending => {
-                // The loop has the runtime lent, so that the links are lent a reference to it.
-                let mut lent = rt;
-                links.wait(&mut lent)
-            }
-            SubPoll::Moved => {}
-            SubPoll::Over(end) => return end,
-        }
-    }
-    unreachable!()
 }
