@@ -11,12 +11,9 @@ ghost use Rattle.ojp_online.specs.Gateways.{GatewayGives, PassesOn};
 use ojp_exchange::Book;
 use ojp_gateway::serve_waiting;
 use ojp_links::{Runtime, WaitLinks};
-use ojp_outside::{DoorRefused, Doors, Sink, WriteFault, put_all};
-use ojp_steps::serving::{Listening, NotServed};
+use ojp_outside::{DoorRefused, Doors, Sink};
+use ojp_steps::serving::{Listening, NotServed, start};
 use std::alloc::Global;
-
-/// What a server writes once it listens.
-const READY: &[u8] = b"ready\n";
 
 /// Listens at the port, says so, and serves the connections that come, over the links whose book this is.
 pub(crate) fn serve_gateway<R: Runtime, O: Sink, D: Doors, L: WaitLinks>(
@@ -36,14 +33,9 @@ pub(crate) fn serve_gateway<R: Runtime, O: Sink, D: Doors, L: WaitLinks>(
         let lent_doors = lent (λ d. seen_as (D.seen d) (D.faults d)) doors.old doors.new in
         ServesAt (AnswersBody (GatewayGives book.now (L.seen links.new))) listening.port listening.count lent_output lent_doors result }
 {
-    match doors.listen(listening.port, listening.count) {
+    match start(listening, output, doors) {
         Ok(()) => {}
-        Err(DoorRefused::Failed) => return Err(NotServed::Doors),
-        Err(DoorRefused::Closed) => unreachable!(),
-    }
-    match put_all(output, READY) {
-        Ok(()) => {}
-        Err(WriteFault) => return Err(NotServed::Output),
+        Err(refused) => return Err(refused),
     }
     match serve_all(rt, alloc, book, doors, links) {
         DoorRefused::Closed => Ok(()),

@@ -1,5 +1,5 @@
 -- Connections that are served one after another.
-use Rattle.std.proofs.Common.{◌≡◌, ℕ, List, [], ◌∷◌, ◌++◌, false, Option, None, Some, Err, refl, sym, ap, ◌∙◌, subst, arith, append_assoc, append-nil, length-append}
+use Rattle.std.proofs.Common.{◌≡◌, ℕ, List, [], ◌∷◌, ◌++◌, false, Option, None, Some, Err, inl, refl, sym, ap, ◌∙◌, subst, arith, append_assoc, append-nil, length-append}
 use Rattle.std.specs.Prelude.{IfSome, IsTrue}
 use Rattle.std.proofs.lemmas.List.Elements.{All-nil, All-push}
 use Rattle.ojp_values.specs.Texts.{Text}
@@ -12,7 +12,9 @@ use Rattle.ojp_http.specs.Asking.{ReadsNoFurther}
 use Rattle.ojp_http.specs.Connections.{Serves, wire}
 use Rattle.ojp_http.specs.declared.served.Served.{Served}
 use Rattle.ojp_steps.specs.Lent.{Lent, before, after}
-use Rattle.ojp_steps.specs.Serving.{DoorsSeen, IsServed, AreServed, ServedOne, HasServed, ServesNext, ServesUntil, ServesAll, ServesInPart}
+use Rattle.ojp_steps.specs.Serving.{DoorsSeen, IsServed, AreServed, ServedOne, HasServed, ServesAt, ServesNext, ServesUntil, ServesAll, ServesInPart, Starts}
+use Rattle.ojp_steps.specs.declared.serving.NotServed.{NotServed}
+use Rattle.ojp_steps.specs.declared.serving.NotServed.TheVariants as servings
 use Rattle.ojp_steps.proofs.FileFacts.{told_is}
 
 module _ (Answers : Text → ℕ → Text → Type 0) where
@@ -88,6 +90,13 @@ module _ (Answers : Text → ℕ → Text → Type 0) where
       served = subst (λ (v : DoorsView). HasServed Answers v (after doors).view) listens s.0;
       rose = omega (arith, s.1, calm);
     }
+
+  -- where the doors do not listen, or it could not be said, nothing is served
+  pub not_started : {O D : Type 0} (port : ℕ) (count : Option ℕ) (output : Lent O SinkView) (doors : Lent D DoorsSeen) (refused : NotServed)
+      → Starts port count output doors (Err refused) → ServesAt Answers port count output doors (Err refused)
+  not_started port count output doors servings.Memory s = absurd s
+  not_started port count output doors servings.Output s = s
+  not_started port count output doors servings.Doors s = inl s
 
   -- connections were served, and the next was not given
   pub served_until : (old mid new : DoorsSeen) → HasServed Answers old.view mid.view → mid.faults ≡ old.faults

@@ -95,6 +95,13 @@ abbrev pub ServesUntil : (Text → ℕ → Text → Type 0) → DoorsSeen → Do
 ServesUntil Answers old new Closed = HasServed Answers old.view new.view × IsTrue (has_all new.view.asked new.view.given) × (new.faults ≡ old.faults)
 ServesUntil Answers old new Failed = HasServed Answers old.view new.view × Rose old.faults new.faults
 
+-- the doors listen, and it was said so; or why not, and what was left alone
+abbrev pub Starts : {O D : Type 0} → ℕ → Option ℕ → Lent O SinkView → Lent D DoorsSeen → Result (Unit {0}) NotServed → Type 0
+Starts port count output doors (Ok nothing) = Gains output ready × Listens port count doors
+Starts port count output doors (Err Memory) = ⊥
+Starts port count output doors (Err Output) = GainsInPart output ready × Listens port count doors
+Starts port count output doors (Err Doors) = IsUnused output × FailsToListen port count doors
+
 -- a server said that it listens and served all that it was asked for; or why it did not, and what it left alone
 abbrev pub ServesAt : {O D : Type 0} → (Text → ℕ → Text → Type 0) → ℕ → Option ℕ → Lent O SinkView → Lent D DoorsSeen → Result (Unit {0}) NotServed → Type 0
 ServesAt Answers port count output doors (Ok nothing) = Gains output ready × ServesAll Answers port count doors

@@ -5,7 +5,7 @@ ghost use Rattle.ojp_scan.specs.Scans.{IsMadeFor};
 ghost use Rattle.ojp_grammar.specs.Answering.{AnswersBody};
 ghost use Rattle.ojp_timetable.specs.Answers.{RegionAnswers};
 ghost use Rattle.ojp_steps.specs.Lent.{lent};
-ghost use Rattle.ojp_steps.specs.Serving.{seen_as, ServesAt, ServesNext, ServesUntil};
+ghost use Rattle.ojp_steps.specs.Serving.{seen_as, ServesAt, ServesNext, ServesUntil, Starts};
 
 use ojp_outside::{DoorRefused, Doors, Sink, WriteFault, put_all};
 use ojp_region::serve_one;
@@ -59,18 +59,38 @@ pub fn serve_at<R: Wait, O: Sink, D: Doors>(
         Ok(scan) => scan,
         Err(NoMemory) => return Err(NotServed::Memory),
     };
+    match start(listening, output, doors) {
+        Ok(()) => {}
+        Err(refused) => return Err(refused),
+    }
+    match serve_all(rt, alloc, table, &mut scan, doors) {
+        DoorRefused::Closed => Ok(()),
+        DoorRefused::Failed => Err(NotServed::Doors),
+    }
+}
+
+/// Listens at the port, and says so.
+///
+/// # Errors
+///
+/// `Output` where it could not be said that the server listens, `Doors` where the doors could not listen.
+pub fn start<O: Sink, D: Doors>(
+    listening: Listening,
+    output: &mut O,
+    doors: &mut D,
+) -> Result<(), NotServed>
+    ensures { let lent_output = lent O.seen output.old output.new in
+        let lent_doors = lent (λ d. seen_as (D.seen d) (D.faults d)) doors.old doors.new in
+        Starts listening.port listening.count lent_output lent_doors result }
+{
     match doors.listen(listening.port, listening.count) {
         Ok(()) => {}
         Err(DoorRefused::Failed) => return Err(NotServed::Doors),
         Err(DoorRefused::Closed) => unreachable!(),
     }
     match put_all(output, READY) {
-        Ok(()) => {}
-        Err(WriteFault) => return Err(NotServed::Output),
-    }
-    match serve_all(rt, alloc, table, &mut scan, doors) {
-        DoorRefused::Closed => Ok(()),
-        DoorRefused::Failed => Err(NotServed::Doors),
+        Ok(()) => Ok(()),
+        Err(WriteFault) => Err(NotServed::Output),
     }
 }
 
