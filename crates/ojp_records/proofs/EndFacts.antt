@@ -128,7 +128,7 @@ failed_among Known code region e own = absurd (cc)
 failed_among Unknown code region e own = absurd (cc)
 failed_among Unheard code region e own = absurd (cc)
 
-failed_check_is : (book : Book) (ask : TripAsk) (told : List Entry) (region : Text) → Among region (failed_checks book ask told) → PlaceFailed told ask.origin region ⊎ PlaceFailed told ask.target region
+pub failed_check_is : (book : Book) (ask : TripAsk) (told : List Entry) (region : Text) → Among region (failed_checks book ask told) → PlaceFailed told ask.origin region ⊎ PlaceFailed told ask.target region
 unfolding failed_checks
 failed_check_is book ask told region h =
     elim (among_append region (failed_check (place_state book (checks_in told) ask.origin) (home ask.origin)) (failed_check (place_state book (checks_in told) ask.target) (home ask.target)) h) [
@@ -164,7 +164,7 @@ least_text_step x xs (Some y) least_one later e = go (text_lt y x) e
     go true is = inr (later least_one (ap Some is))
     go false is = inl (sym is)
 
-least_text_among : (xs : List Text) (least_one : Text) → least_text xs ≡ Some least_one → Among least_one xs
+pub least_text_among : (xs : List Text) (least_one : Text) → least_text xs ≡ Some least_one → Among least_one xs
 least_text_among [] least_one e = absurd (cc)
 least_text_among (x ∷ xs) least_one e =
     let is : lesser_text x (least_text xs) ≡ least_one = cc in
@@ -185,7 +185,7 @@ failed_start told pair (Some n) region e = go (is_failed told (reach_at pair n))
     go true is e' = (n, refl, is, cc)
     go false is e' = absurd (cc)
 
-failed_pair_is : (book : Book) (ask : TripAsk) (told : List Entry) (region : Text) → Among region (failed_pairs book ask told) → PairFailed book ask told region
+pub failed_pair_is : (book : Book) (ask : TripAsk) (told : List Entry) (region : Text) → Among region (failed_pairs book ask told) → PairFailed book ask told region
 unfolding failed_pairs
 failed_pair_is book ask told region h =
     let m : Member (pairs_from book ask.origin) (λ (pair : Pair). failed_at told pair (improving_start book ask told pair) ≡ Some region) =
