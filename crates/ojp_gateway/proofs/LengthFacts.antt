@@ -15,8 +15,8 @@ use Rattle.ojp_values.specs.declared.replies.TripReply.TheVariants as trip_repli
 use Rattle.ojp_values.specs.declared.replies.MultiReply.TheVariants as multi_replies
 use Rattle.ojp_values.specs.declared.replies.Delivery.{Delivery}
 use Rattle.ojp_values.specs.declared.replies.Delivery.TheVariants as deliveries
-use Rattle.ojp_timetable.specs.Journeys.{Standing, alighted, reached, AllFollow}
-use Rattle.ojp_links.specs.Fits.{FitsNext, FitsResult, FitsTrip}
+use Rattle.ojp_timetable.specs.Journeys.{Standing, reached}
+use Rattle.ojp_links.specs.Fits.{FitsResult}
 use Rattle.ojp_links.proofs.RisingFacts.{all_of_each}
 use Rattle.ojp_exchange.specs.Book.{Book, HasChange}
 use Rattle.ojp_exchange.specs.Kept.{IsWellBook, points_at, spot_of}
@@ -29,21 +29,11 @@ use Rattle.ojp_records.specs.Chains.{Chain, ChainOn, IsTripOf, legs_of}
 use Rattle.ojp_records.proofs.Chained.{fits_reach}
 use Rattle.ojp_records.proofs.ChainFacts.{AnswersSome, pairwise_at}
 use Rattle.ojp_join.specs.Outcomes.{Ended, IsJoined}
+use Rattle.ojp_join.proofs.BackFacts.{few_legs}
 use Rattle.ojp_turns.proofs.BoundFacts.{spots_few}
 use Rattle.ojp_gateway.specs.Answers.{PointsByBook, delivery_of_points}
 
 -- ---- how many legs fit between two moments
-
-few_follow : (region : Text) (at : Standing) (legs : List Leg) → AllFollow (FitsNext region) at legs → length legs + at.moment ≤ (reached at legs).moment
-few_follow region at [] follow = omega arith
-few_follow region at (leg ∷ legs) follow =
-    let rest = few_follow region (alighted leg) legs follow.1 in
-    omega (arith, rest, follow.0.2, follow.0.3)
-
-few_legs : (region o : Text) (t : ℕ) (d : Text) (trip : Trip) → FitsTrip region o t d trip → length trip.legs + t ≤ trip.end + 1
-few_legs region o t d trip it =
-    let rest = few_follow region (alighted it.first) it.rest it.follow in
-    omega (arith, ap length it.totals.legs_are, rest, it.leaves, it.rides, it.ends.1)
 
 module _ (book : Book) (ask : TripAsk) (told : List Entry) (well : IsWellBook book) where
   fits_of : (region stop : Text) (start : ℕ) (trip : Trip) → IsTripOf book ask told region stop start trip → AnswersSome (FitsResult region stop start) (results.Trip trip)

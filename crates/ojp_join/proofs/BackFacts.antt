@@ -201,7 +201,7 @@ few_follow region at (leg ∷ legs) follow =
     let rest = few_follow region (alighted leg) legs follow.1 in
     omega (arith, rest, follow.0.2, follow.0.3)
 
-few_legs : (region o : Text) (t : ℕ) (d : Text) (trip : Trip) → FitsTrip region o t d trip → length trip.legs + t ≤ trip.end + 1
+pub few_legs : (region o : Text) (t : ℕ) (d : Text) (trip : Trip) → FitsTrip region o t d trip → length trip.legs + t ≤ trip.end + 1
 few_legs region o t d trip it =
     let rest = few_follow region (alighted it.first) it.rest it.follow in
     omega (arith, ap length it.totals.legs_are, rest, it.leaves, it.rides, it.ends.1)
