@@ -1,5 +1,5 @@
 -- Codes that differ, and one code more.
-use Rattle.std.proofs.Common.{◌≡◌, ◌≢◌, ℕ, zero, suc, ◌<◌, false, List, [], ◌∷◌, ◌++◌, length, map, Some, slice_get, ◌⊎◌, refl, sym, ◌∙◌, ap, subst, inl, inr, arith}
+use Rattle.std.proofs.Common.{◌≡◌, ◌≢◌, ℕ, zero, suc, ◌<◌, false, List, [], ◌∷◌, ◌++◌, length, map, Some, slice_get, refl, sym, ◌∙◌, ap, subst, inl, inr, arith}
 use Rattle.std.specs.List.{list_any}
 use Rattle.std.proofs.lemmas.List.{length-map, map-append}
 use Rattle.std.proofs.lemmas.Option.{none-some, same_Some}
@@ -10,39 +10,13 @@ use Rattle.ojp_timetable.specs.Tables.{Timetable}
 use Rattle.ojp_timetable.proofs.TextFacts.{is_same}
 use Rattle.ojp_links.specs.Seen.{AreDistinct, View, code_at, code_in, code_of_station, codes_of, region_of_table}
 use Rattle.ojp_links.specs.Calls.{IsNewCode}
+use Rattle.ojp_links.proofs.MoreFacts.{distinct_more}
 use Rattle.ojp_hostile.specs.Ready.{AreOfRegions}
 
 among_of : {X : Type 0} (xs : List X) (k : ℕ) (x : X) → slice_get xs k ≡ Some x → Among x xs
 among_of [] k x e = absurd (none-some x e)
 among_of (y ∷ xs) zero x e = inl (sym (same_Some y x e))
 among_of (y ∷ xs) (suc k) x e = inr (among_of xs k x e)
-
-record LastOrBefore {X : Type 0} (xs : List X) (x y : X) (k : ℕ) : Type 0 where
-  cases : ((k ≡ length xs) × (y ≡ x)) ⊎ (slice_get xs k ≡ Some y)
-
-last_or_before : {X : Type 0} (xs : List X) (x y : X) (k : ℕ) → slice_get (xs ++ x ∷ []) k ≡ Some y → LastOrBefore xs x y k
-last_or_before [] x y zero e = record { cases = inl (refl, sym (same_Some x y e)) }
-last_or_before [] x y (suc k) e = absurd (none-some y e)
-last_or_before (z ∷ xs) x y zero e = record { cases = inr e }
-last_or_before (z ∷ xs) x y (suc k) e = elim (last_or_before xs x y k e).cases [
-  | inl h ↦ record { cases = inl (ap suc h.0, h.1) }
-  | inr h ↦ record { cases = inr h }
-]
-
-distinct_more : (codes : List Text) (code : Text) → AreDistinct codes → ((k : ℕ) (other : Text) → slice_get codes k ≡ Some other → other ≢ code) → AreDistinct (codes ++ code ∷ [])
-distinct_more codes code distinct apart i j x a b = elim (last_or_before codes code x i a).cases [
-  | inl h ↦ elim (last_or_before codes code x j b).cases [
-    | inl k ↦ h.0 ∙ sym k.0
-    | inr k ↦ absurd (apart j x k h.1)
-  ]
-  | inr h ↦ elim (last_or_before codes code x j b).cases [
-    | inl k ↦ absurd (apart i x h k.1)
-    | inr k ↦ distinct i j x h k
-  ]
-]
-
-pub no_tables : AreOfRegions [] []
-no_tables = record { are = refl; distinct = λ i j x a b. absurd (none-some x a) }
 
 pub tables_more : (tables all : List Timetable) (table : Timetable) (codes more : List Text) (code : Text) → code ≡ table.region → AreOfRegions codes tables → list_any (λ (other : Text). same other code) codes ≡ false
     → all ≡ tables ++ table ∷ [] → more ≡ codes ++ code ∷ [] → AreOfRegions more all

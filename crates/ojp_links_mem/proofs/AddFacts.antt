@@ -1,14 +1,16 @@
 -- What a region that is added does to what is seen of the links.
-use Rattle.std.proofs.Common.{◌≡◌, ◌≢◌, ℕ, zero, suc, ◌<◌, ◌≤◌, ◌&&◌, true, false, Bool, List, [], ◌∷◌, ◌++◌, map, length, Option, Some, None, IfSome, ◌⊎◌, is_some, option_map, slice_get, unwrap_or, refl, sym, ◌∙◌, ap, subst, inl, inr, arith, true≢false}
-use Rattle.std.proofs.lemmas.List.{length-map}
-use Rattle.std.proofs.lemmas.Option.{none-some, same_Some, slice_get_within}
+use Rattle.std.proofs.Common.{◌≡◌, ◌≢◌, ℕ, zero, suc, ◌<◌, ◌≤◌, ◌&&◌, true, false, Bool, List, [], ◌∷◌, ◌++◌, map, length, Option, Some, None, IfSome, Vec, Global, is_some, option_map, slice_get, unwrap_or, refl, sym, ◌∙◌, ap, subst, arith, true≢false}
+use Rattle.std.proofs.lemmas.List.{length-map, map-append}
+use Rattle.std.proofs.lemmas.Option.{none-some, slice_get_within}
 use Rattle.slab.specs.Slab.{Slab, get}
 use Rattle.ojp_values.specs.Lists.{Each, IsRising}
 use Rattle.ojp_values.specs.Texts.{Text, text_lt}
 use Rattle.ojp_timetable.specs.Tables.{Timetable}
 use Rattle.ojp_timetable.specs.Runs.{IsWell}
+use Rattle.ojp_timetable.proofs.AmongFacts.{each_push}
 use Rattle.ojp_links.specs.Seen.{AreDistinct, Station, code_of_station, region_of_table}
 use Rattle.ojp_links.specs.Calls.{Adds, IsNewCode, ServersGrow, without_rests}
+use Rattle.ojp_links.proofs.MoreFacts.{distinct_more, length_more}
 use Rattle.ojp_links_mem.specs.Regions.{count_at, fault_count, in_front, rejection_count, station_of, table_at, tables_of}
 use Rattle.ojp_links_mem.specs.Memory.{IsNumberOf, links_of, said_in, told_tables}
 use Rattle.ojp_links_mem.specs.Pending.{IsKept, IsServed, live_of}
@@ -21,19 +23,6 @@ use Rattle.ojp_links_mem.proofs.RegionFacts.{table_of}
 use Rattle.ojp_links_mem.proofs.SoundFacts.{if_tables, le_from, of_tables, told_by}
 
 -- ---- lists with one more
-
-module _ {X Y : Type 0} where
-  map_more : (f : X → Y) (xs : List X) (x : X) → map f (xs ++ x ∷ []) ≡ map f xs ++ f x ∷ []
-  map_more f [] x = refl
-  map_more f (y ∷ xs) x = ap (λ (ys : List Y). f y ∷ ys) (map_more f xs x)
-
-length_more : {X : Type 0} (xs : List X) (x : X) → length (xs ++ x ∷ []) ≡ suc (length xs)
-length_more [] x = refl
-length_more (y ∷ xs) x = ap suc (length_more xs x)
-
-each_more : {X : Type 0} (P : X → Type 0) (xs : List X) (x : X) → Each P xs → P x → Each P (xs ++ x ∷ [])
-each_more P [] x all one = (one, tt)
-each_more P (y ∷ xs) x all one = (all.0, each_more P xs x all.1 one)
 
 get_before : {X : Type 0} (xs : List X) (x y : X) (k : ℕ) → slice_get xs k ≡ Some y → slice_get (xs ++ x ∷ []) k ≡ Some y
 get_before [] x y k e = absurd (none-some y e)
@@ -49,31 +38,6 @@ count_other [] x zero ne = absurd (ne refl)
 count_other [] x (suc k) ne = refl
 count_other (y ∷ xs) x zero ne = refl
 count_other (y ∷ xs) x (suc k) ne = count_other xs x k (λ e. ne (ap suc e))
-
--- what is got of a list with one more: the last, or what was there
-record LastOrBefore {X : Type 0} (xs : List X) (x y : X) (k : ℕ) : Type 0 where
-  cases : ((k ≡ length xs) × (y ≡ x)) ⊎ (slice_get xs k ≡ Some y)
-
-last_or_before : {X : Type 0} (xs : List X) (x y : X) (k : ℕ) → slice_get (xs ++ x ∷ []) k ≡ Some y → LastOrBefore xs x y k
-last_or_before [] x y zero e = record { cases = inl (refl, sym (same_Some x y e)) }
-last_or_before [] x y (suc k) e = absurd (none-some y e)
-last_or_before (z ∷ xs) x y zero e = record { cases = inr e }
-last_or_before (z ∷ xs) x y (suc k) e = elim (last_or_before xs x y k e).cases [
-  | inl h ↦ record { cases = inl (ap suc h.0, h.1) }
-  | inr h ↦ record { cases = inr h }
-]
-
-distinct_more : (codes : List Text) (code : Text) → AreDistinct codes → ((k : ℕ) (other : Text) → slice_get codes k ≡ Some other → other ≢ code) → AreDistinct (codes ++ code ∷ [])
-distinct_more codes code distinct apart i j x a b = elim (last_or_before codes code x i a).cases [
-  | inl h ↦ elim (last_or_before codes code x j b).cases [
-    | inl k ↦ h.0 ∙ sym k.0
-    | inr k ↦ absurd (apart j x k h.1)
-  ]
-  | inr h ↦ elim (last_or_before codes code x j b).cases [
-    | inl k ↦ absurd (apart i x h k.1)
-    | inr k ↦ distinct i j x h k
-  ]
-]
 
 tables_more : (tables : List Timetable) (regions : List Region) (region : Region) (table : Timetable) → table_at tables region.table ≡ Some table → tables_of tables (regions ++ region ∷ []) ≡ tables_of tables regions ++ table ∷ []
 tables_more tables [] region table e = ap (λ (o : Option Timetable). in_front o []) e
@@ -101,6 +65,28 @@ pub record IsAdded (m n : Inside) (region : Region) : Type 0 where
   pub numbered : IsNumbered (length m.servers.items) region
   pub no_faults : region.faults ≡ 0
   pub no_rejections : region.rejections ≡ 0
+
+-- the links with these regions, which tell their servers where this says so
+abbrev pub with_regions : Inside → Vec Region Global → Bool → Inside
+with_regions m regions tells = record m { regions = regions; tells_servers = tells; tells_order = false }
+
+pub is_added : (m : Inside) (regions : Vec Region Global) (tells : Bool) (region : Region) → regions.items ≡ m.regions.items ++ region ∷ [] → tells ≡ (m.tells_servers && is_some region.table)
+    → IsNumbered (length m.servers.items) region → region.faults ≡ 0 → region.rejections ≡ 0 → IsAdded m (with_regions m regions tells) region
+is_added m regions tells region behind tells_is numbered no_faults no_rejections = record {
+  tables_same = refl;
+  script_same = refl;
+  behind = behind;
+  order_same = refl;
+  tells = tells_is;
+  tells_no_order = refl;
+  asks_same = refl;
+  most_same = refl;
+  patience_same = refl;
+  made_same = refl;
+  numbered = numbered;
+  no_faults = no_faults;
+  no_rejections = no_rejections;
+}
 
 both_true : (a b : Bool) → (a && b) ≡ true → (a ≡ true) × (b ≡ true)
 both_true true b e = (refl, e)
@@ -130,7 +116,7 @@ pub adds_at : (m n : Inside) (region : Region) (code host : Text) (port : ℕ) �
 adds_at m n region code host port added is =
     let here : length (map station_of m.regions.items) ≡ length m.regions.items = length-map m.regions.items station_of in
     record {
-      stations = ap (map station_of) added.behind ∙ (map_more station_of m.regions.items region ∙ ap (λ (s : Station). map station_of m.regions.items ++ s ∷ []) is);
+      stations = ap (map station_of) added.behind ∙ (map-append station_of m.regions.items (region ∷ []) ∙ ap (λ (s : Station). map station_of m.regions.items ++ s ∷ []) is);
       servers = grows m n region added;
       no_faults = at_last fault_count ∙ added.no_faults;
       no_rejections = at_last rejection_count ∙ added.no_rejections;
@@ -141,7 +127,7 @@ adds_at m n region code host port added is =
     }
   where
     counts : (f : Region → ℕ) → map f n.regions.items ≡ map f m.regions.items ++ f region ∷ []
-    counts f = ap (map f) added.behind ∙ map_more f m.regions.items region
+    counts f = ap (map f) added.behind ∙ map-append f m.regions.items (region ∷ [])
 
     place : (f : Region → ℕ) → length (map station_of m.regions.items) ≡ length (map f m.regions.items)
     place f = length-map m.regions.items station_of ∙ sym (length-map m.regions.items f)
@@ -180,17 +166,17 @@ new_code codes code h k other e same = h k (slice_get_within codes k other e) (a
 
 pub whole_added : (m n : Inside) (region : Region) → IsWhole m → IsAdded m n region → IsNewCode (links_of (view_of m)) region.code → IsWhole n
 whole_added m n region whole added fresh =
-    let stations : map station_of n.regions.items ≡ map station_of m.regions.items ++ station_of region ∷ [] = ap (map station_of) added.behind ∙ map_more station_of m.regions.items region in
-    let codes : map code_of_station (map station_of n.regions.items) ≡ map code_of_station (map station_of m.regions.items) ++ region.code ∷ [] = ap (map code_of_station) stations ∙ map_more code_of_station (map station_of m.regions.items) (station_of region) in
+    let stations : map station_of n.regions.items ≡ map station_of m.regions.items ++ station_of region ∷ [] = ap (map station_of) added.behind ∙ map-append station_of m.regions.items (region ∷ []) in
+    let codes : map code_of_station (map station_of n.regions.items) ≡ map code_of_station (map station_of m.regions.items) ++ region.code ∷ [] = ap (map code_of_station) stations ∙ map-append code_of_station (map station_of m.regions.items) (station_of region ∷ []) in
     let apart = new_code (map code_of_station (map station_of m.regions.items)) region.code (λ k below. fresh k (subst (λ (c : ℕ). k < c) (length-map (map station_of m.regions.items) code_of_station) below)) in
     record {
       rising = subst (λ (ts : List Timetable). IsRising text_lt (map region_of_table ts)) (sym added.tables_same) whole.rising;
       well = subst (λ (ts : List Timetable). Each IsWell ts) (sym added.tables_same) whole.well;
       distinct = subst (λ (cs : List Text). AreDistinct cs) (sym codes) (distinct_more (map code_of_station (map station_of m.regions.items)) region.code whole.distinct apart);
-      numbered = subst (λ (ts : List Timetable). Each (IsNumbered (length ts)) n.regions.items) (sym added.tables_same) (subst (λ (rs : List Region). Each (IsNumbered (length m.servers.items)) rs) (sym added.behind) (each_more (IsNumbered (length m.servers.items)) m.regions.items region whole.numbered added.numbered));
+      numbered = subst (λ (ts : List Timetable). Each (IsNumbered (length ts)) n.regions.items) (sym added.tables_same) (subst (λ (rs : List Region). Each (IsNumbered (length m.servers.items)) rs) (sym added.behind) (each_push (IsNumbered (length m.servers.items)) m.regions.items region whole.numbered added.numbered));
       told = λ tells.
           let both = told_both m n region added tells in
-          subst (λ (rs : List Region). Each IsToldOf rs) (sym added.behind) (each_more IsToldOf m.regions.items region (whole.told both.0) (told_region m n region added both.1));
+          subst (λ (rs : List Region). Each IsToldOf rs) (sym added.behind) (each_push IsToldOf m.regions.items region (whole.told both.0) (told_region m n region added both.1));
       unsaid = λ tells number. ap (λ (s : List (ℕ × What)). said_in s number) added.script_same ∙ whole.unsaid (told_both m n region added tells).0 number;
       low = subst (λ (k : ℕ). k ≤ 10) (sym added.order_same) whole.low;
       ordered = λ tells. absurd (true≢false (sym tells ∙ added.tells_no_order));

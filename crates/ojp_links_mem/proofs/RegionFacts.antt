@@ -9,6 +9,7 @@ use Rattle.ojp_timetable.specs.Tables.{Timetable}
 use Rattle.ojp_timetable.specs.Runs.{IsWell}
 use Rattle.ojp_exchange.proofs.RisingFacts.{each_at}
 use Rattle.ojp_links.specs.Seen.{Station}
+use Rattle.ojp_links.proofs.MoreFacts.{length_more}
 use Rattle.ojp_links_mem.specs.Regions.{ChangesAt, DoesNotFall, count_at, fault_count, in_front, number_of_table, region_at, regions_from, station_of, table_at, tables_of}
 use Rattle.ojp_links_mem.specs.Memory.{own_station}
 use Rattle.ojp_links_mem.specs.Kept.{IsNumbered, IsToldOf}
@@ -221,10 +222,6 @@ longer : (xs : List Timetable) (x : Timetable) (ys : List Timetable) → (xs ++ 
 longer [] x ys = refl
 longer (z ∷ xs) x ys = ap (λ (zs : List Timetable). z ∷ zs) (longer xs x ys)
 
-one_more : (xs : List Timetable) (x : Timetable) → length (xs ++ x ∷ []) ≡ suc (length xs)
-one_more [] x = refl
-one_more (z ∷ xs) x = ap suc (one_more xs x)
-
 -- the timetables of the regions are those that they were made of
 pub from_tables : (front tables : List Timetable) → tables_of (front ++ tables) (regions_from (length front) tables) ≡ tables
 from_tables front [] = refl
@@ -233,7 +230,7 @@ from_tables front (t ∷ tables) =
     let again : tables_of ((front ++ t ∷ []) ++ tables) (regions_from (length (front ++ t ∷ [])) tables) ≡ tables = from_tables (front ++ t ∷ []) tables in
     let moved : tables_of (front ++ t ∷ tables) (regions_from (suc (length front)) tables) ≡ tables =
     subst (λ (all : List Timetable). tables_of all (regions_from (suc (length front)) tables) ≡ tables) (longer front t tables)
-    (subst (λ (n : ℕ). tables_of ((front ++ t ∷ []) ++ tables) (regions_from n tables) ≡ tables) (one_more front t) again) in
+    (subst (λ (n : ℕ). tables_of ((front ++ t ∷ []) ++ tables) (regions_from n tables) ≡ tables) (length_more front t) again) in
     ap (λ (o : Option Timetable). in_front o (tables_of (front ++ t ∷ tables) (regions_from (suc (length front)) tables))) here ∙ ap (λ (ts : List Timetable). t ∷ ts) moved
 
 -- ---- a region in its place

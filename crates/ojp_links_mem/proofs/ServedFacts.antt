@@ -1,13 +1,11 @@
 -- What a server wrote for the bytes of a request, to a sink that was empty, is a response to them.
-use Rattle.std.proofs.Common.{◌≡◌, ℕ, List, [], ◌∷◌, ◌++◌, Option, Some, None, IfSome, Result, Ok, Err, IfOk, sym, ◌∙◌, subst}
+use Rattle.std.proofs.Common.{◌≡◌, ℕ, List, [], Option, Some, None, IfSome, Result, Ok, Err, IfOk, sym, ◌∙◌, subst}
 use Rattle.std.specs.Io.KnownBytes.{Appends}
-use Rattle.ojp_values.specs.Lists.{Each}
 use Rattle.ojp_grammar.specs.Answering.{AnswersBody}
 use Rattle.ojp_http.specs.declared.served.Served.TheVariants.{Answered}
 use Rattle.ojp_http.specs.Connections.{Serves, Wire, WritesFor}
 use Rattle.ojp_http.specs.Serving.{ServedAs}
 use Rattle.ojp_timetable.specs.Tables.{Timetable}
-use Rattle.ojp_timetable.specs.Runs.{IsWell}
 use Rattle.ojp_timetable.specs.Answers.{RegionAnswers}
 use Rattle.std.proofs.lemmas.Option.{none-some, same_Some}
 use Rattle.ojp_links.specs.Replies.{ServesByTable}
@@ -24,10 +22,6 @@ served_reply table old new status request written left empty is h =
     let begun : Appends (Some []) new.output.written writes.0 = subst (λ (o : Option (List ℕ)). Appends o new.output.written writes.0) empty writes.2 in
     let ended : written ≡ writes.0 = subst (λ (o : Option (List ℕ)). Appends (Some []) o writes.0) is begun in
     (status, subst (λ (out : List ℕ). ServedAs Answers request status out) (sym ended) writes.1)
-
-pub each_more : (tables : List Timetable) (table : Timetable) → Each IsWell tables → IsWell table → Each IsWell (tables ++ table ∷ [])
-each_more [] table all well = (well, tt)
-each_more (t ∷ tables) table all well = (all.0, each_more tables table all.1 well)
 
 -- what holds of a value holds of what follows from it
 pub if_ok_map : {T E : Type 0} (r : Result T E) (P Q : T → Type 0) → ((x : T) → P x → Q x) → IfOk r P → IfOk r Q

@@ -1,9 +1,10 @@
 -- What regions keep, and what is seen of them.
-use Rattle.std.proofs.Common.{◌≡◌, ◌≢◌, ℕ, zero, suc, ◌<◌, ◌≤◌, List, [], ◌∷◌, ◌++◌, map, length, Option, Some, Result, Ok, Err, OnOk, OnErr, ◌⊎◌, option_map, slice_get, unwrap_or, refl, sym, ◌∙◌, ap, subst, inl, inr, arith}
-use Rattle.std.proofs.lemmas.List.{length-map}
-use Rattle.std.proofs.lemmas.Option.{none-some, same_Some, slice_get-map, slice_get_within}
+use Rattle.std.proofs.Common.{◌≡◌, ◌≢◌, ℕ, suc, ◌<◌, ◌≤◌, List, [], ◌∷◌, ◌++◌, map, length, Option, Some, Result, Ok, Err, OnOk, OnErr, option_map, slice_get, unwrap_or, sym, ◌∙◌, ap, subst, arith}
+use Rattle.std.proofs.lemmas.List.{length-map, map-append}
+use Rattle.std.proofs.lemmas.Option.{slice_get-map, slice_get_within}
 use Rattle.ojp_values.specs.Texts.{Text}
 use Rattle.ojp_links.specs.Seen.{AreDistinct, Station, code_in, code_of_station}
+use Rattle.ojp_links.proofs.MoreFacts.{distinct_more, length_more}
 use Rattle.ojp_links_net.specs.Regions.{AddsRegion, IsNewAmong, RegionsView, station_of}
 use Rattle.ojp_links_net.specs.Kept.{AreCounted, regions_of}
 use Rattle.ojp_links_net.specs.declared.regions.Endpoint.{Endpoint}
@@ -24,39 +25,6 @@ code_seen r v at place e is =
 
 -- ---- one more region
 
-map_more : {X Y : Type 0} (f : X → Y) (xs : List X) (x : X) → map f (xs ++ x ∷ []) ≡ map f xs ++ f x ∷ []
-map_more f [] x = refl
-map_more {X} {Y} f (y ∷ xs) x = ap (λ (ys : List Y). f y ∷ ys) (map_more f xs x)
-
-length_more : {X : Type 0} (xs : List X) (x : X) → length (xs ++ x ∷ []) ≡ suc (length xs)
-length_more [] x = refl
-length_more (y ∷ xs) x = ap suc (length_more xs x)
-
--- what is got of a list with one more: the last, or what was there
-record LastOrBefore {X : Type 0} (xs : List X) (x y : X) (k : ℕ) : Type 0 where
-  cases : ((k ≡ length xs) × (y ≡ x)) ⊎ (slice_get xs k ≡ Some y)
-
-last_or_before : {X : Type 0} (xs : List X) (x y : X) (k : ℕ) → slice_get (xs ++ x ∷ []) k ≡ Some y → LastOrBefore xs x y k
-last_or_before [] x y zero e = record { cases = inl (refl, sym (same_Some x y e)) }
-last_or_before [] x y (suc k) e = absurd (none-some y e)
-last_or_before (z ∷ xs) x y zero e = record { cases = inr e }
-last_or_before (z ∷ xs) x y (suc k) e = elim (last_or_before xs x y k e).cases [
-  | inl h ↦ record { cases = inl (ap suc h.0, h.1) }
-  | inr h ↦ record { cases = inr h }
-]
-
-distinct_more : (codes : List Text) (code : Text) → AreDistinct codes → ((k : ℕ) (other : Text) → slice_get codes k ≡ Some other → other ≢ code) → AreDistinct (codes ++ code ∷ [])
-distinct_more codes code distinct apart i j x a b = elim (last_or_before codes code x i a).cases [
-  | inl h ↦ elim (last_or_before codes code x j b).cases [
-    | inl k ↦ h.0 ∙ sym k.0
-    | inr k ↦ absurd (apart j x k h.1)
-  ]
-  | inr h ↦ elim (last_or_before codes code x j b).cases [
-    | inl k ↦ absurd (apart i x h k.1)
-    | inr k ↦ distinct i j x h k
-  ]
-]
-
 -- a code that no region has is not among the codes
 apart_from : (stations : List Station) (name : Text) → IsNewAmong stations name → (k : ℕ) (other : Text) → slice_get (map code_of_station stations) k ≡ Some other → other ≢ name
 apart_from stations name fresh k other at e =
@@ -66,7 +34,7 @@ apart_from stations name fresh k other at e =
 
 codes_more : (places : List Endpoint) (place : Endpoint) → map code_of_station (map station_of (places ++ place ∷ [])) ≡ map code_of_station (map station_of places) ++ place.code ∷ []
 codes_more places place =
-    ap (map code_of_station) (map_more station_of places place) ∙ map_more code_of_station (map station_of places) (station_of place)
+    ap (map code_of_station) (map-append station_of places (place ∷ [])) ∙ map-append code_of_station (map station_of places) (station_of place ∷ [])
 
 more_each : {X Y : Type 0} (xs now : List X) (x : X) (ys then : List Y) (y : Y) → now ≡ xs ++ x ∷ [] → then ≡ ys ++ y ∷ [] → length xs ≡ length ys → length now ≡ length then
 more_each xs now x ys then y a b e = ap length a ∙ (length_more xs x ∙ (ap suc e ∙ (sym (length_more ys y) ∙ sym (ap length b))))
