@@ -12,6 +12,7 @@ mod spots;
 mod tables;
 
 pub use book::Book;
+pub use joins::first_twice;
 pub use points::points_of;
 pub use refusals::BookRefused;
 pub use region_points::RegionPoints;

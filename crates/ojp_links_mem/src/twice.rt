@@ -2,12 +2,12 @@
 
 ghost use Rattle.std.specs.Prelude.{◌≡◌, map, IfOk, IsPermutation};
 ghost use Rattle.std.specs.List.Sorted.{IsSortedBy};
-ghost use Rattle.ojp_values.specs.Texts.{same, text_lt};
-ghost use Rattle.ojp_exchange.specs.Joins.{first_twice};
+ghost use Rattle.ojp_values.specs.Texts.{text_lt};
 ghost use Rattle.ojp_links.specs.Seen.{region_of_table};
 ghost use Rattle.ojp_links_mem.specs.Files.{IsTwiceAnswer};
 
-use ojp_timetable::Timetable;
+use ojp_exchange::first_twice;
+use ojp_timetable::table::Timetable;
 use ojp_values::{Code, NoMemory};
 use std::alloc::Global;
 
@@ -33,26 +33,6 @@ fn sorted_codes(alloc: Global, tables: &[Timetable]) -> Result<Vec<Code>, NoMemo
     let mut codes = codes_of(alloc, tables)?;
     codes.sort_unstable();
     Ok(codes)
-}
-
-/// Whether the codes are the same.
-#[tactic(auto, unfolding(ojp_values::specs::Texts::same))]
-fn is_same(code: &Code, other: &Code) -> bool
-    ensures { result ≡ same code.now other.now }
-{
-    *code == *other
-}
-
-/// The first code that stands twice in a row.
-fn first_twice(codes: &[Code]) -> Option<Code>
-    ensures { result ≡ first_twice codes.now }
-{
-    'codes: for i in 1..codes.len() {
-        if is_same(&codes[i - 1], &codes[i]) {
-            return Some(codes[i]);
-        }
-    }
-    None
 }
 
 /// The least code that two of the timetables have, if there is one.
