@@ -18,6 +18,7 @@ use Rattle.ojp_values.specs.declared.replies.Delivery.TheVariants as deliveries
 use Rattle.ojp_timetable.specs.Tables.{Timetable}
 use Rattle.ojp_timetable.specs.GatewayAnswers.{TripByTables}
 use Rattle.ojp_exchange.specs.Book.{Book}
+use Rattle.ojp_links.specs.Replies.{IsOfKind}
 use Rattle.ojp_links.specs.Seen.{View}
 use Rattle.ojp_records.specs.declared.queries.Entry.{Entry}
 use Rattle.ojp_records.specs.Headline.{AreGiven}
@@ -40,6 +41,7 @@ none_rejected book v tables told region = refl
 pub unserved_multi : (book : Book) (v : View) (ask : MultiAsk) (told : List Entry) (delivery : Delivery) → told ≡ [] → delivery ≡ deliveries.Multi (multi_replies.Fault faults.NotServed) → Answers book v v told (asks.Multi ask) delivery
 unserved_multi book v ask told delivery none is =
     record {
+      kind = subst (IsOfKind (asks.Multi ask)) (sym is) tt;
       right = λ tables own. is;
       names_failed = λ code e. let no : deliveries.Multi (multi_replies.Fault faults.NotServed) ≡ deliveries.Trip (trip_replies.Fault (faults.RegionFailed code)) = sym is ∙ e in absurd (cc);
       not_served = is;
@@ -51,6 +53,7 @@ unserved_multi book v ask told delivery none is =
 pub unserved_events : (book : Book) (v : View) (ask : EventAsk) (told : List Entry) (delivery : Delivery) → told ≡ [] → delivery ≡ deliveries.Events (events_replies.Fault faults.NotServed) → Answers book v v told (asks.Events ask) delivery
 unserved_events book v ask told delivery none is =
     record {
+      kind = subst (IsOfKind (asks.Events ask)) (sym is) tt;
       right = λ tables own. is;
       names_failed = λ code e. let no : deliveries.Events (events_replies.Fault faults.NotServed) ≡ deliveries.Trip (trip_replies.Fault (faults.RegionFailed code)) = sym is ∙ e in absurd (cc);
       not_served = is;
@@ -65,9 +68,16 @@ points_no_trip None found reply e = absurd (cc)
 points_no_trip (Some stop) [] reply e = absurd (cc)
 points_no_trip (Some stop) (p ∷ found) reply e = absurd (cc)
 
+-- but it is one for points
+points_kind : (ask : PointsAsk) (place : Option Text) (found : List Point) → IsOfKind (asks.Points ask) (delivery_of_points place found)
+points_kind ask None found = tt
+points_kind ask (Some stop) [] = tt
+points_kind ask (Some stop) (p ∷ found) = tt
+
 pub points_answered : (book : Book) (v : View) (ask : PointsAsk) (told : List Entry) (delivery : Delivery) → told ≡ [] → PointsByBook book ask.place delivery → Answers book v v told (asks.Points ask) delivery
 points_answered book v ask told delivery none by =
     record {
+      kind = subst (IsOfKind (asks.Points ask)) (sym by.2) (points_kind ask ask.place by.0);
       right = λ tables own. points_by_tables tables book ask.place delivery own.1 by;
       names_failed = λ code e. absurd (points_no_trip ask.place by.0 (trip_replies.Fault (faults.RegionFailed code)) (sym by.2 ∙ e));
       not_served = tt;
@@ -79,6 +89,7 @@ points_answered book v ask told delivery none by =
 pub same_stop : (book : Book) (v : View) (ask : TripAsk) (told : List Entry) (delivery : Delivery) → ask.origin ≡ ask.target → told ≡ [] → delivery ≡ deliveries.Trip (trip_replies.Fault (faults.SameStop ask.origin)) → Answers book v v told (asks.Trip ask) delivery
 same_stop book v ask told delivery alike none is =
     record {
+      kind = subst (IsOfKind (asks.Trip ask)) (sym is) tt;
       right = λ tables own. inl (trip_replies.Fault (faults.SameStop ask.origin), is, (refl, alike));
       names_failed = λ code e. let no : deliveries.Trip (trip_replies.Fault (faults.SameStop ask.origin)) ≡ deliveries.Trip (trip_replies.Fault (faults.RegionFailed code)) = sym is ∙ e in absurd (cc);
       not_served = tt;
@@ -115,6 +126,7 @@ searched_by : (book : Book) (ask : TripAsk) (old new : View) (told : List Entry)
 searched_by book ask old new told reply differ ended grown =
     let causes : Each (HasCause old new) told = subst (Each (HasCause old new)) (sym grown.grows) grown.causes in
     record {
+      kind = tt;
       right = λ tables own.
           right_by book ask old new told reply differ ended causes tables (ends_answer tables book ask told reply own.1 differ (grown.given tables own.0 tt) ended);
       names_failed = λ code e.

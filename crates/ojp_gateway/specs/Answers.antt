@@ -18,6 +18,7 @@ use Rattle.ojp_timetable.specs.Tables.{Timetable}
 use Rattle.ojp_timetable.specs.GatewayAnswers.{GatewayAnswers, IsPlace, entries_reply}
 use Rattle.ojp_exchange.specs.Book.{Book}
 use Rattle.ojp_exchange.specs.Kept.{ArePointsAt}
+use Rattle.ojp_links.specs.Replies.{IsOfKind}
 use Rattle.ojp_links.specs.Seen.{View, TellsTables}
 use Rattle.ojp_records.specs.declared.queries.Entry.{Entry}
 use Rattle.ojp_records.specs.Headline.{AreTablesOf, AreGiven}
@@ -92,6 +93,7 @@ ToldGiven book old (asks.Points ask) told = Unit {0}
 
 -- what an ask to the gateway gives: the relation of asks to deliveries by which it serves
 pub record Answers (book : Book) (old new : View) (told : List Entry) (ask : Ask) (delivery : Delivery) : Type 0 where
+  pub kind : IsOfKind ask delivery
   pub right : IsRightWhereTold book old new ask delivery
   pub names_failed : NamesFailed old new delivery
   pub not_served : IsNotServed ask delivery

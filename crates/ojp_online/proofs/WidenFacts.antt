@@ -54,6 +54,7 @@ module _ (a b c d : View) (w : Widens a b c d) where
 -- an answer of a later call is one since the regions were added
 pub gives_of : (book : Book) (old new : View) (told : List Told) (ask : Ask) (delivery : Delivery) → Keeps old new → Answers book old new told ask delivery → GatewayGives book new ask delivery
 gives_of book old new told ask delivery keeps answers = record {
+  kind = answers.kind;
   right = λ tables tells. right_wider old new (as_added new) new w tables ask delivery (answers.right tables (tells_narrower old new (as_added new) new w book tables tells));
   names_failed = λ code is. rose_wider old new (as_added new) new w code (answers.names_failed code is);
   not_served = answers.not_served;
@@ -64,6 +65,7 @@ gives_of book old new told ask delivery keeps answers = record {
 
 pub gives_on : (book : Book) (mid new : View) (ask : Ask) (delivery : Delivery) → Keeps mid new → GatewayGives book mid ask delivery → GatewayGives book new ask delivery
 gives_on book mid new ask delivery keeps gives = record {
+  kind = gives.kind;
   right = λ tables tells. right_wider (as_added mid) mid (as_added new) new w tables ask delivery (gives.right tables (tells_narrower (as_added mid) mid (as_added new) new w book tables tells));
   names_failed = λ code is. rose_wider (as_added mid) mid (as_added new) new w code (gives.names_failed code is);
   not_served = gives.not_served;

@@ -12,6 +12,7 @@ use Rattle.ojp_exchange.specs.Book.{Book, points_of}
 use Rattle.ojp_exchange.specs.Joins.{IsJoined}
 use Rattle.ojp_exchange.specs.declared.refusals.BookRefused.TheVariants as refusals
 use Rattle.ojp_grammar.specs.Answering.{AnswersBody}
+use Rattle.ojp_links.specs.Replies.{IsOfKind}
 use Rattle.ojp_links.specs.Seen.{View, NoneLive, TellsTables}
 use Rattle.ojp_links.specs.Calls.{Keeps}
 use Rattle.ojp_regions.specs.RegionsText.{IsListRefused as IsTextRefused}
@@ -26,9 +27,11 @@ use Rattle.ojp_steps.specs.declared.failures.Failure.TheVariants.{Unread, TooLon
 use Rattle.ojp_online.specs.Added.{as_added, HasFailedNone, HasStations}
 use Rattle.ojp_online.specs.RegionFiles.{IsFileOf, IsRefusedFile, IsGood}
 
--- what the gateway gives to an ask since its regions were added: where timetables are told and the book is theirs, the answer by them,
--- but that a search may end otherwise where a region's count rose; it names no region but one whose count rose, and says what it does not serve
+-- what the gateway gives to an ask since its regions were added: a delivery of its kind; where timetables are told and the book is theirs, the
+-- answer by them, but that a search may end otherwise where a region's count rose; it names no region but one whose count rose, and says what it
+-- does not serve
 pub record GatewayGives (book : Book) (links : View) (ask : Ask) (delivery : Delivery) : Type 0 where
+  pub kind : IsOfKind ask delivery
   pub right : IsRightWhereTold book (as_added links) links ask delivery
   pub names_failed : NamesFailed (as_added links) links delivery
   pub not_served : IsNotServed ask delivery
