@@ -1,5 +1,5 @@
 -- What answers between two moments answers between an earlier and a later one; and what serves with one relation serves with a wider one.
-use Rattle.std.proofs.Common.{◌≡◌, ℕ, ◌<◌, ◌≤◌, List, length, Option, Some, None, Result, Ok, Err, IfSome, sym, ◌∙◌, ap, subst, inl, inr, arith}
+use Rattle.std.proofs.Common.{◌≡◌, ℕ, ◌<◌, ◌≤◌, List, length, Option, Some, None, IfSome, sym, ◌∙◌, ap, subst, inl, inr, arith}
 use Rattle.ojp_values.specs.Texts.{Text}
 use Rattle.ojp_values.specs.declared.asks.Ask.{Ask}
 use Rattle.ojp_values.specs.declared.asks.Ask.TheVariants as asks
@@ -7,11 +7,9 @@ use Rattle.ojp_values.specs.declared.replies.Delivery.{Delivery}
 use Rattle.ojp_outside.specs.Doors.{DoorsView, Entry}
 use Rattle.ojp_timetable.specs.Tables.{Timetable}
 use Rattle.ojp_grammar.specs.Answering.{AnswersBody}
-use Rattle.ojp_http.specs.Serving.{RespondsWith, ServedAs}
-use Rattle.ojp_http.specs.Connections.{Serves, Wire, WritesFor, WritesPrefixFor}
+use Rattle.ojp_http.specs.Connections.{Serves, Wire}
 use Rattle.ojp_http.specs.declared.served.Served.{Served}
-use Rattle.ojp_http.specs.declared.served.Served.TheVariants.{Answered, ReadFault, WriteFault, NoMemory}
-use Rattle.ojp_http.specs.declared.refusal.HttpRefusal.{HttpRefusal}
+use Rattle.ojp_bodies.proofs.ServedFacts.{serves_on}
 use Rattle.ojp_exchange.specs.Book.{Book}
 use Rattle.ojp_links.specs.Seen.{View, Fixed, code_in, codes_of}
 use Rattle.ojp_links.specs.Calls.{Keeps}
@@ -76,42 +74,15 @@ gives_on book mid new ask delivery keeps gives = record {
 
 -- ---- relations
 
-answers_wider : (R S : Ask → Delivery → Type 0) → ((ask : Ask) (delivery : Delivery) → R ask delivery → S ask delivery)
-    → (body : Text) (status : ℕ) (text : Text) → AnswersBody R body status text → AnswersBody S body status text
-answers_wider R S wide body status text (inl refuses) = inl refuses
-answers_wider R S wide body status text (inr d) =
-    inr (record { ask = d.ask; asked = d.asked; delivery = d.delivery; relates = wide d.ask d.delivery d.relates; is_status = d.is_status; is_text = d.is_text })
+module _ (R S : Ask → Delivery → Type 0) (wide : (ask : Ask) (delivery : Delivery) → R ask delivery → S ask delivery) where
+  is_served_wider : (entry : Entry) → IsServed (AnswersBody R) entry → IsServed (AnswersBody S) entry
+  is_served_wider entry s = record { old = s.old; new = s.new; given = s.given; back = s.back; ended = s.ended; serves = serves_on R S wide s.old s.new s.ended s.serves; taken = s.taken }
 
-module _ (A B : Text → ℕ → Text → Type 0) (wide : (body : Text) (status : ℕ) (text : Text) → A body status text → B body status text) where
-  responds_wider : (outcome : Result Text HttpRefusal) (status : ℕ) (out : Text) → RespondsWith A outcome status out → RespondsWith B outcome status out
-  responds_wider (Ok body) status out (text, answers, is) = (text, wide body status text answers, is)
-  responds_wider (Err refusal) status out r = r
-
-  served_as_wider : (bytes : Text) (status : ℕ) (out : Text) → ServedAs A bytes status out → ServedAs B bytes status out
-  served_as_wider bytes status out s = record { outcome = s.outcome; allowed = s.allowed; responds = responds_wider s.outcome status out s.responds }
-
-  writes_wider : (old new : Wire) (status : ℕ) (left : Option Text) → IfSome left (WritesFor A old new status) → IfSome left (WritesFor B old new status)
-  writes_wider old new status None w = tt
-  writes_wider old new status (Some bytes) (out, served, appends) = (out, served_as_wider bytes status out served, appends)
-
-  prefix_wider : (old new : Wire) (left : Option Text) → IfSome left (WritesPrefixFor A old new) → IfSome left (WritesPrefixFor B old new)
-  prefix_wider old new None w = tt
-  prefix_wider old new (Some bytes) (status, out, served, appends) = (status, out, served_as_wider bytes status out served, appends)
-
-  serves_wider : (old new : Wire) (how : Served) → Serves A old new how → Serves B old new how
-  serves_wider old new (Answered status) s = (writes_wider old new status old.input.left s.0, s.1)
-  serves_wider old new ReadFault s = s
-  serves_wider old new WriteFault s = (prefix_wider old new old.input.left s.0, s.1)
-  serves_wider old new NoMemory s = s
-
-  is_served_wider : (entry : Entry) → IsServed A entry → IsServed B entry
-  is_served_wider entry s = record { old = s.old; new = s.new; given = s.given; back = s.back; ended = s.ended; serves = serves_wider s.old s.new s.ended s.serves; taken = s.taken }
-
-  are_served_wider : (new : DoorsView) (returned : Option (List Entry)) → IfSome returned (AreServed A new) → IfSome returned (AreServed B new)
+  are_served_wider : (new : DoorsView) (returned : Option (List Entry)) → IfSome returned (AreServed (AnswersBody R) new) → IfSome returned (AreServed (AnswersBody S) new)
   are_served_wider new None s = tt
   are_served_wider new (Some entries) s = record { more = s.more; returned = s.returned; given = s.given; served = λ k d below. is_served_wider _ (s.served k d below) }
 
-  has_served_wider : (old new : DoorsView) → HasServed A old new → HasServed B old new
+  has_served_wider : (old new : DoorsView) → HasServed (AnswersBody R) old new → HasServed (AnswersBody S) old new
   has_served_wider old new s = record { asked = s.asked; none_out = s.none_out; entries = are_served_wider new old.returned s.entries }
 
 -- ---- the gateway
@@ -119,10 +90,8 @@ module _ (A B : Text → ℕ → Text → Type 0) (wide : (body : Text) (status 
 pub gateway_serves : (book : Book) (old new : View) (told : List Told) (before after : Wire) (how : Served) → Keeps old new → Serves (AnswersBody (Answers book old new told)) before after how
     → Serves (AnswersBody (GatewayGives book new)) before after how
 gateway_serves book old new told before after how keeps s =
-    serves_wider (AnswersBody (Answers book old new told)) (AnswersBody (GatewayGives book new))
-    (answers_wider (Answers book old new told) (GatewayGives book new) (λ ask delivery. gives_of book old new told ask delivery keeps)) before after how s
+    serves_on (Answers book old new told) (GatewayGives book new) (λ ask delivery. gives_of book old new told ask delivery keeps) before after how s
 
 pub gateway_served : (book : Book) (mid new : View) (old_doors doors : DoorsView) → Keeps mid new → HasServed (AnswersBody (GatewayGives book mid)) old_doors doors → HasServed (AnswersBody (GatewayGives book new)) old_doors doors
 gateway_served book mid new old_doors doors keeps s =
-    has_served_wider (AnswersBody (GatewayGives book mid)) (AnswersBody (GatewayGives book new))
-    (answers_wider (GatewayGives book mid) (GatewayGives book new) (λ ask delivery. gives_on book mid new ask delivery keeps)) old_doors doors s
+    has_served_wider (GatewayGives book mid) (GatewayGives book new) (λ ask delivery. gives_on book mid new ask delivery keeps) old_doors doors s
