@@ -1,5 +1,5 @@
 -- Codes that differ, and one code more.
-use Rattle.std.proofs.Common.{◌≡◌, ◌≢◌, ℕ, zero, suc, ◌<◌, false, List, [], ◌∷◌, ◌++◌, length, map, Some, slice_get, refl, sym, ◌∙◌, ap, subst, inl, inr, arith}
+use Rattle.std.proofs.Common.{◌≡◌, ◌≢◌, ℕ, zero, suc, ◌<◌, false, List, [], ◌∷◌, ◌++◌, length, map, Some, slice_get, sym, ◌∙◌, ap, subst, inl, inr, arith}
 use Rattle.std.specs.List.{list_any}
 use Rattle.std.proofs.lemmas.List.{length-map, map-append}
 use Rattle.std.proofs.lemmas.Option.{none-some, same_Some}
@@ -8,9 +8,9 @@ use Rattle.ojp_values.specs.Texts.{Text, same}
 use Rattle.ojp_values.proofs.ListFacts.{none_list_any}
 use Rattle.ojp_timetable.specs.Tables.{Timetable}
 use Rattle.ojp_timetable.proofs.TextFacts.{is_same}
-use Rattle.ojp_links.specs.Seen.{AreDistinct, View, code_at, code_in, code_of_station, codes_of, region_of_table}
+use Rattle.ojp_links.specs.Seen.{AreDistinct, View, code_at, code_of_station, codes_of, region_of_table}
 use Rattle.ojp_links.specs.Calls.{IsNewCode}
-use Rattle.ojp_links.proofs.MoreFacts.{distinct_more}
+use Rattle.ojp_links.proofs.MoreFacts.{code_among, distinct_more}
 use Rattle.ojp_hostile.specs.Ready.{AreOfRegions}
 
 among_of : {X : Type 0} (xs : List X) (k : ℕ) (x : X) → slice_get xs k ≡ Some x → Among x xs
@@ -28,13 +28,8 @@ tables_more tables all table codes more code own regions none by_table by_code =
     apart : (k : ℕ) (other : Text) → slice_get codes k ≡ Some other → other ≢ code
     apart k other at is = none_list_any (λ (o : Text). same o code) other codes none (among_of codes k other at) (is_same other code is)
 
-among_at : (xs : List Text) (r : ℕ) → r < length xs → Among (code_in xs r) xs
-among_at [] r l = absurd (omega (arith, l))
-among_at (x ∷ xs) zero l = inl refl
-among_at (x ∷ xs) (suc r) l = inr (among_at xs r (omega (arith, l)))
-
 pub new_code : (v : View) (codes : List Text) (code : Text) → codes_of v.fixed ≡ codes → list_any (λ (other : Text). same other code) codes ≡ false → IsNewCode v code
 new_code v codes code are none r below e =
     let within : r < length (codes_of v.fixed) = omega (arith, below, length-map v.fixed.stations code_of_station) in
-    let among : Among (code_at v r) codes = subst (λ (cs : List Text). Among (code_at v r) cs) are (among_at (codes_of v.fixed) r within) in
+    let among : Among (code_at v r) codes = subst (λ (cs : List Text). Among (code_at v r) cs) are (code_among (codes_of v.fixed) r within) in
     none_list_any (λ (other : Text). same other code) (code_at v r) codes none among (is_same (code_at v r) code e)

@@ -1,15 +1,15 @@
 -- Gateways stay ready, and what makes them ready.
-use Rattle.std.proofs.Common.{◌≡◌, ℕ, List, [], ◌∷◌, ◌++◌, map, Option, Some, None, Ok, Result, option_map, refl, sym, ◌∙◌, ap, subst}
+use Rattle.std.proofs.Common.{◌≡◌, ℕ, List, [], ◌∷◌, ◌++◌, map, Ok, Result, sym, ◌∙◌, ap, subst}
 use Rattle.std.specs.Prelude.{◌↔◌}
 use Rattle.std.proofs.lemmas.List.{map-append}
-use Rattle.std.proofs.lemmas.Option.{none-some}
 use Rattle.slab.specs.Slab.{Slab}
 use Rattle.ojp_values.specs.Lists.{Among}
 use Rattle.ojp_values.specs.Texts.{Text}
 use Rattle.ojp_timetable.specs.Tables.{Timetable}
 use Rattle.ojp_exchange.specs.Book.{Book}
-use Rattle.ojp_links.specs.Seen.{Fixed, Live, NoneLive, View, code_of_station, codes_of}
-use Rattle.ojp_links.specs.Calls.{Adds, Keeps, SameButRests, without_rests}
+use Rattle.ojp_links.specs.Seen.{Fixed, NoneLive, View, code_of_station, codes_of}
+use Rattle.ojp_links.specs.Calls.{Adds, Keeps}
+use Rattle.ojp_links.proofs.MoreFacts.{none_added}
 use Rattle.ojp_links_mem.specs.Memory.{IsUnopenedOver, MemView, Renumbers, links_of}
 use Rattle.ojp_links_mem.specs.Pending.{live_in}
 use Rattle.ojp_links_mem.specs.Regions.{station_of}
@@ -39,14 +39,6 @@ renumbered_ready book old new to by ready = record {
 
 pub unopened_has : (given : List Timetable) (by : ℕ) (m : MemView) → IsUnopenedOver given by m → HasCodes [] (links_of m)
 unopened_has given by m u = record { are = ap (map code_of_station) u.no_stations; idle = u.fresh.none_live }
-
--- no ask is live where none was
-rests_none : (now : Option Live) → option_map without_rests now ≡ None → now ≡ None
-rests_none None e = refl
-rests_none (Some ask) e = absurd (none-some (without_rests ask) (sym e))
-
-none_added : (old new : View) → SameButRests old new → NoneLive old → NoneLive new
-none_added old new same none key = rests_none (new.live key) (same key ∙ ap (option_map without_rests) (none key))
 
 pub one_more : (old new : View) (codes all : List Text) (code host : Text) (port : ℕ) → HasCodes codes old → Adds old new code host port → all ≡ codes ++ code ∷ [] → HasCodes all new
 one_more old new codes all code host port has adds e = record {

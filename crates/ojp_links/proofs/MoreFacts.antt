@@ -1,8 +1,10 @@
--- Lists with one more, and codes that stay distinct.
-use Rattle.std.proofs.Common.{◌≡◌, ◌≢◌, ℕ, zero, suc, List, [], ◌∷◌, ◌++◌, length, Some, slice_get, ◌⊎◌, refl, sym, ◌∙◌, ap, inl, inr}
+-- One more region: lists with one more, codes, and asks of which none is live.
+use Rattle.std.proofs.Common.{◌≡◌, ◌≢◌, ℕ, zero, suc, ◌<◌, List, [], ◌∷◌, ◌++◌, length, Option, Some, None, option_map, slice_get, ◌⊎◌, refl, sym, ◌∙◌, ap, inl, inr, arith}
 use Rattle.std.proofs.lemmas.Option.{none-some, same_Some}
+use Rattle.ojp_values.specs.Lists.{Among}
 use Rattle.ojp_values.specs.Texts.{Text}
-use Rattle.ojp_links.specs.Seen.{AreDistinct}
+use Rattle.ojp_links.specs.Seen.{AreDistinct, Live, NoneLive, View, code_in}
+use Rattle.ojp_links.specs.Calls.{SameButRests, without_rests}
 
 pub length_more : {X : Type 0} (xs : List X) (x : X) → length (xs ++ x ∷ []) ≡ suc (length xs)
 length_more [] x = refl
@@ -33,3 +35,17 @@ distinct_more codes code distinct apart i j x a b = elim (last_or_before codes c
     | inr k ↦ distinct i j x h k
   ]
 ]
+
+-- the code at a place of the list is one of it
+pub code_among : (codes : List Text) (at : ℕ) → at < length codes → Among (code_in codes at) codes
+code_among [] at below = absurd (omega (arith, below))
+code_among (code ∷ codes) zero below = inl refl
+code_among (code ∷ codes) (suc at) below = inr (code_among codes at (omega (arith, below)))
+
+-- no ask is live where none was
+rests_none : (now : Option Live) → option_map without_rests now ≡ None → now ≡ None
+rests_none None e = refl
+rests_none (Some ask) e = absurd (none-some (without_rests ask) (sym e))
+
+pub none_added : (old new : View) → SameButRests old new → NoneLive old → NoneLive new
+none_added old new same none key = rests_none (new.live key) (same key ∙ ap (option_map without_rests) (none key))

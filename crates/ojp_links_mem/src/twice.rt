@@ -7,7 +7,7 @@ ghost use Rattle.ojp_links.specs.Seen.{region_of_table};
 ghost use Rattle.ojp_links_mem.specs.Files.{IsTwiceAnswer};
 
 use ojp_exchange::first_twice;
-use ojp_timetable::table::Timetable;
+use ojp_timetable::Timetable;
 use ojp_values::{Code, NoMemory};
 use std::alloc::Global;
 

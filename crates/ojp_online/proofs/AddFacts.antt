@@ -1,12 +1,13 @@
 -- One more region is added to links.
-use Rattle.std.proofs.Common.{◌≡◌, ◌≢◌, ℕ, zero, suc, ◌+◌, ◌<◌, ◌≤◌, List, [], ◌∷◌, ◌++◌, length, map, take, Option, Some, None, slice_get, option_map, get_or, refl, sym, ◌∙◌, ap, subst, inl, inr, arith, length-append}
+use Rattle.std.proofs.Common.{◌≡◌, ◌≢◌, ℕ, zero, suc, ◌+◌, ◌<◌, ◌≤◌, List, [], ◌∷◌, ◌++◌, length, map, take, Some, slice_get, get_or, refl, sym, ◌∙◌, ap, subst, inl, inr, arith, length-append}
 use Rattle.std.proofs.Math.Seq.{take-suc}
 use Rattle.std.proofs.lemmas.List.{length-map, map-append, take_all}
 use Rattle.std.proofs.lemmas.Option.{none-some, same_Some, slice_get-get_or}
 use Rattle.ojp_values.specs.Lists.{Among}
 use Rattle.ojp_values.specs.Texts.{Text}
-use Rattle.ojp_links.specs.Seen.{Live, NoneLive, Station, View, code_in, code_of_station, codes_of}
-use Rattle.ojp_links.specs.Calls.{Adds, IsNewCode, SameButRests, without_rests}
+use Rattle.ojp_links.specs.Seen.{Station, View, code_in, code_of_station, codes_of}
+use Rattle.ojp_links.specs.Calls.{Adds, IsNewCode}
+use Rattle.ojp_links.proofs.MoreFacts.{code_among}
 use Rattle.ojp_regions.specs.Lines.{codes_in}
 use Rattle.ojp_regions.specs.RegionsText.{AreApart}
 use Rattle.ojp_regions.specs.declared.line.RegionLine.{RegionLine}
@@ -33,25 +34,12 @@ codes_added (r ∷ regions) = ap (λ (l : List Text). r.code ∷ l) (codes_added
 pub codes_of_added : (v : View) (regions : List RegionLine) → HasStations regions v → codes_of v.fixed ≡ codes_in regions
 codes_of_added v regions has = ap (map code_of_station) has ∙ codes_added regions
 
-among_at : (xs : List Text) (r : ℕ) → r < length xs → Among (code_in xs r) xs
-among_at [] r l = absurd (omega (arith, l))
-among_at (x ∷ xs) zero l = inl refl
-among_at (x ∷ xs) (suc r) l = inr (among_at xs r (omega (arith, l)))
-
 pub new_code : (v : View) (regions : List RegionLine) (i : ℕ) (x : RegionLine) → HasStations (take i regions) v → AreApart (codes_in regions) → slice_get regions i ≡ Some x → IsNewCode v x.code
 new_code v regions i x has apart at r below e =
     let codes : codes_of v.fixed ≡ codes_in (take i regions) = codes_of_added v (take i regions) has in
     let within : r < length (codes_of v.fixed) = omega (arith, below, length-map v.fixed.stations code_of_station) in
-    let among : Among (code_in (codes_of v.fixed) r) (codes_of v.fixed) = among_at (codes_of v.fixed) r within in
+    let among : Among (code_in (codes_of v.fixed) r) (codes_of v.fixed) = code_among (codes_of v.fixed) r within in
     apart_before regions i x apart at (subst (Among x.code) codes (subst (λ (c : Text). Among c (codes_of v.fixed)) e among))
-
--- no ask is live where none was
-rests_none : (now : Option Live) → option_map without_rests now ≡ None → now ≡ None
-rests_none None e = refl
-rests_none (Some ask) e = absurd (none-some (without_rests ask) (sym e))
-
-pub none_added : (old new : View) → SameButRests old new → NoneLive old → NoneLive new
-none_added old new same none key = rests_none (new.live key) (same key ∙ ap (option_map without_rests) (none key))
 
 -- one region more
 pub one_more : (old new : View) (regions : List RegionLine) (i : ℕ) (x : RegionLine) → HasStations (take i regions) old → Adds old new x.code x.host x.port → slice_get regions i ≡ Some x → i < length regions
