@@ -8,6 +8,7 @@ use Rattle.std.proofs.lemmas.Option.{get_or_from_slice_get, none-some, same_Some
 use Rattle.ojp_values.specs.Lists.{Among}
 use Rattle.ojp_values.specs.Texts.{Text, same}
 use Rattle.ojp_values.specs.declared.trips.Leg.{Leg}
+use Rattle.ojp_values.proofs.EachFacts.{up_to}
 use Rattle.ojp_timetable.specs.Tables.{Journey, Place, Timetable, name_of, place_of}
 use Rattle.ojp_timetable.specs.declared.calls.Call.{Call}
 use Rattle.ojp_timetable.specs.Runs.{IsLeg, IsWell, IsWellCall, RunsOn, day_long, moment}
@@ -16,9 +17,6 @@ use Rattle.ojp_timetable.specs.Journeys.{AllFollow, Follows, IsAt, Regional, ali
 use Rattle.ojp_timetable.proofs.PointFacts.{none_passes}
 use Rattle.ojp_timetable.proofs.ReadFacts.{among_at, at_among, one_number, read_at, read_once}
 use Rattle.ojp_timetable.proofs.TextFacts.{is_same, same_is}
-
-up_to : (k n : ℕ) → k < n + 1 → k ≤ n
-up_to k n h = omega (arith, h)
 
 -- one call more was looked at
 pub looked : (P : Call → Type 0) (calls : List Call) (n : ℕ) (at : Call) → slice_get calls n ≡ Some at → (P at → ⊥) → (k : ℕ) (other : Call) → slice_get calls k ≡ Some other → k < n + 1

@@ -1,6 +1,6 @@
 -- Orders by one part after another.
-use Rattle.std.proofs.Common.{◌≡◌, ℕ, ◌==◌, ◌&&◌, ◌||◌, nat_lt, Ordering, Bool, true, false, ◌⊎◌, refl, sym, ◌∙◌, subst, true≢false, inl, inr, arith}
-use Rattle.std.proofs.lemmas.Bool.{cases_Bool}
+use Rattle.std.proofs.Common.{◌≡◌, ℕ, ◌==◌, ◌&&◌, ◌||◌, nat_lt, Ordering, Bool, true, false, refl, sym, ◌∙◌, subst, true≢false, inl, inr, arith}
+use Rattle.std.proofs.lemmas.Bool.{cases_Bool, or_cases, or_left, or_right}
 use Rattle.std.proofs.lemmas.Bool.Decides.{nat_tests}
 use Rattle.std.specs.declared.cmp.Ordering.TheVariants.{Less, Equal, Greater}
 use Rattle.std.specs.Ordering.{is_lt, nat_cmp, ordering_reverse}
@@ -28,18 +28,6 @@ both false b h = absurd (true≢false (sym h))
 pub and_true : (a b : Bool) → a ≡ true → b ≡ true → a && b ≡ true
 and_true true b h k = k
 and_true false b h k = h
-
-or_cases : (a b : Bool) → a || b ≡ true → (a ≡ true) ⊎ (b ≡ true)
-or_cases true b h = inl refl
-or_cases false b h = inr h
-
-or_left : (a b : Bool) → a ≡ true → a || b ≡ true
-or_left true b h = refl
-or_left false b h = absurd (true≢false (sym h))
-
-or_right : (a b : Bool) → b ≡ true → a || b ≡ true
-or_right true b h = refl
-or_right false b h = h
 
 or_none : (a b : Bool) → a || b ≡ false → (a ≡ false) × (b ≡ false)
 or_none true b h = absurd (true≢false h)

@@ -1,27 +1,14 @@
 -- A neighbour more at the first point of a reference.
-use Rattle.std.proofs.Common.{◌≡◌, ℕ, zero, suc, ◌<◌, ◌≤◌, Bool, true, false, not, cond, nat_lt, List, [], ◌∷◌, length, get_or, set, refl, sym, ◌∙◌, ap, arith}
+use Rattle.std.proofs.Common.{◌≡◌, ℕ, zero, suc, ◌<◌, ◌≤◌, Bool, true, false, not, cond, nat_lt, List, [], ◌∷◌, length, get_or, set, refl, ◌∙◌, ap, arith}
 use Rattle.std.specs.Prelude.{Some, None, position, bytes_eq, unwrap_or}
-use Rattle.std.specs.List.{position_or_len}
 use Rattle.std.proofs.lemmas.Bool.Decides.{nat_tests}
 use Rattle.std.proofs.lemmas.List.Quantifiers.{position-Some}
-use Rattle.std.proofs.lemmas.List.Sums.{prefix_len_passes, prefix_len-le-length}
+use Rattle.std.proofs.lemmas.List.Sums.{prefix_len-le-length}
+pub use Rattle.ojp_values.proofs.Positions.{none_passes}
 use Rattle.ojp_values.specs.Texts.{Text, same}
 use Rattle.ojp_values.specs.declared.trips.Point.{Point}
 use Rattle.ojp_values.specs.declared.trips.Neighbour.{Neighbour}
 use Rattle.ojp_timetable.specs.Contents.{point_with, points_with}
-
-no_stop : (n m : ℕ) → cond (nat_lt n m) (Some n) None ≡ None → m ≤ n
-no_stop n m h = grind (arith, nat_tests)
-
-not_true : (b : Bool) → not b ≡ true → b ≡ false
-not_true true h = sym h
-not_true false h = refl
-
--- no element passes a test that stops nowhere
-pub none_passes : {X : Type 0} (p : X → Bool) (xs : List X) → position p xs ≡ None → (k : ℕ) (d : X) → k < length xs → p (get_or xs k d) ≡ false
-none_passes p xs h k d lt =
-    let n : length xs ≤ position_or_len p xs = no_stop _ _ h in
-    not_true _ (prefix_len_passes (λ x. not (p x)) xs k d (omega arith))
 
 -- a place at which a test stops, or the end
 place_low : (n m : ℕ) → n ≤ m → unwrap_or (cond (nat_lt n m) (Some n) None) m ≤ m

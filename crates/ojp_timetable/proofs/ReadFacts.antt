@@ -1,50 +1,24 @@
 -- Journeys that are read by their numbers, and when a moment of an operating day may be.
-use Rattle.std.proofs.Common.{◌≡◌, ℕ, suc, zero, ◌+◌, ◌*◌, ◌<◌, ◌≤◌, List, [], ◌∷◌, length, Some, refl, sym, ◌∙◌, ap, subst, inl, inr, arith, slice_get}
+use Rattle.std.proofs.Common.{◌≡◌, ℕ, suc, zero, ◌+◌, ◌*◌, ◌≤◌, List, [], ◌∷◌, length, Some, sym, ◌∙◌, ap, arith, slice_get}
 use Rattle.std.specs.Prelude.{Option, option_map, unwrap_or}
 use Rattle.std.proofs.lemmas.List.Sums.{sum_by-cons}
 use Rattle.std.proofs.lemmas.Option.{none-some, same_Some}
-use Rattle.ojp_values.specs.Lists.{Among, Each}
+pub use Rattle.ojp_values.proofs.EachFacts.{among_at, at_among, read_at, read_once}
+use Rattle.ojp_values.proofs.EachFacts.{each_read}
 use Rattle.ojp_values.specs.declared.moments.TheConstants.{FIRST_DAY, LAST_DAY}
 use Rattle.ojp_timetable.specs.Tables.{Journey, Timetable}
 use Rattle.ojp_timetable.specs.Runs.{HaveOwnLabels, IsWell, calls_of, moment}
 use Rattle.ojp_timetable.specs.Views.{calls_at, view_of}
 use Rattle.ojp_timetable.specs.declared.kept.JourneyView.{JourneyView}
 
--- an element that is read stands in the list
-pub among_at : {X : Type 0} → (xs : List X) (k : ℕ) (x : X) → slice_get xs k ≡ Some x → Among x xs
-among_at [] k x e = absurd (none-some x e)
-among_at (y ∷ ys) zero x e = inl (sym (same_Some y x e))
-among_at (y ∷ ys) (suc k) x e = inr (among_at ys k x e)
-
--- an element of the list is read somewhere
-pub at_among : {X : Type 0} → (xs : List X) (x : X) → Among x xs → (k : ℕ) × (slice_get xs k ≡ Some x)
-at_among [] x h = absurd h
-at_among (y ∷ ys) x (inl e) = (zero, ap Some (sym e))
-at_among (y ∷ ys) x (inr h) = let r = at_among ys x h in (suc r.0, r.1)
-
--- two reads of one place give one element
-pub read_once : {X : Type 0} → (xs : List X) (j k : ℕ) (x y : X) → j ≡ k → slice_get xs j ≡ Some x → slice_get xs k ≡ Some y → x ≡ y
-read_once xs j k x y e a b = same_Some x y (sym a ∙ (ap (λ (n : ℕ). slice_get xs n) e ∙ b))
-
--- a place within the list is read
-pub read_at : {X : Type 0} → (xs : List X) (k : ℕ) → k < length xs → (x : X) × (slice_get xs k ≡ Some x)
-read_at [] k h = absurd (omega (arith, h))
-read_at (y ∷ ys) zero h = (y, refl)
-read_at (y ∷ ys) (suc k) h = read_at ys k (omega (arith, h))
-
-each_at : {X : Type 0} → (P : X → Type 0) (xs : List X) (k : ℕ) (x : X) → Each P xs → slice_get xs k ≡ Some x → P x
-each_at P [] k x h e = absurd (none-some x e)
-each_at P (y ∷ ys) zero x h e = subst P (same_Some y x e) h.0
-each_at P (y ∷ ys) (suc k) x h e = each_at P ys k x h.1 e
-
 -- journeys of one label have one number
 pub one_number : (journeys : List Journey) (i k : ℕ) (x y : Journey) → HaveOwnLabels journeys → slice_get journeys i ≡ Some x → slice_get journeys k ≡ Some y → x.id ≡ y.id → i ≡ k
 one_number [] i k x y h a b e = absurd (none-some x a)
 one_number (j ∷ js) zero zero x y h a b e = omega arith
 one_number (j ∷ js) zero (suc k) x y h a b e =
-    absurd (each_at (λ (other : Journey). j.id ≡ other.id → ⊥) js k y h.0 b (ap (λ (o : Journey). o.id) (same_Some j x a) ∙ e))
+    absurd (each_read (λ (other : Journey). j.id ≡ other.id → ⊥) js k y h.0 b (ap (λ (o : Journey). o.id) (same_Some j x a) ∙ e))
 one_number (j ∷ js) (suc i) zero x y h a b e =
-    absurd (each_at (λ (other : Journey). j.id ≡ other.id → ⊥) js i x h.0 a (ap (λ (o : Journey). o.id) (same_Some j y b) ∙ sym e))
+    absurd (each_read (λ (other : Journey). j.id ≡ other.id → ⊥) js i x h.0 a (ap (λ (o : Journey). o.id) (same_Some j y b) ∙ sym e))
 one_number (j ∷ js) (suc i) (suc k) x y h a b e = ap (λ (n : ℕ). suc n) (one_number js i k x y h.1 a b e)
 
 -- the calls of a journey are not more than those of all journeys

@@ -1,7 +1,7 @@
 -- Rides go forward in time, end by the last moment, and call at stops of their region.
-use Rattle.std.proofs.Common.{◌≡◌, ℕ, suc, zero, ◌<◌, ◌≤◌, List, [], ◌∷◌, Option, Some, None, sym, ◌∙◌, ap, subst, inl, inr, arith}
+use Rattle.std.proofs.Common.{◌≡◌, ℕ, suc, zero, ◌<◌, ◌≤◌, List, [], ◌∷◌, Option, Some, None, sym, ◌∙◌, ap, subst, arith}
 use Rattle.std.specs.List.{slice_get}
-use Rattle.ojp_values.specs.Lists.{Among}
+use Rattle.ojp_values.proofs.EachFacts.{among_at}
 use Rattle.ojp_values.specs.Texts.{Text}
 use Rattle.ojp_values.specs.declared.moments.TheConstants.{FIRST_DAY, LAST_DAY}
 use Rattle.ojp_values.specs.declared.trips.Leg.{Leg}
@@ -9,19 +9,16 @@ use Rattle.ojp_timetable.specs.Tables.{Timetable, Call}
 use Rattle.ojp_timetable.specs.Runs.{last_moment, moment, IsLeg, NotBefore, latest, NoneFalls, IsOffset, IsOfRegion, IsWellCall, IsWell}
 use Rattle.ojp_timetable.specs.Journeys.{Standing, alighted, reached, AllFollow, HasTime, Follows, Leads}
 
-among_slice_get : {X : Type 0} (xs : List X) (i : ℕ) (x : X) → slice_get xs i ≡ Some x → Among x xs
-among_slice_get [] i x e = absurd (cc)
-among_slice_get (y ∷ xs) zero x e = let same : y ≡ x = cc in inl (sym same)
-among_slice_get (y ∷ xs) (suc i) x e = inr (among_slice_get xs i x e)
-
-latest_rises : (t : ℕ) (o : Option ℕ) → NotBefore t o → t ≤ latest t o
+-- where no time falls, the latest is not before
+pub latest_rises : (t : ℕ) (o : Option ℕ) → NotBefore t o → t ≤ latest t o
 latest_rises t None h = omega arith
 latest_rises t (Some u) h = h
 
-latest_at : (t u : ℕ) (o : Option ℕ) → o ≡ Some u → latest t o ≡ u
+pub latest_at : (t u : ℕ) (o : Option ℕ) → o ≡ Some u → latest t o ≡ u
 latest_at t u o e = ap (latest t) e
 
-comes_later : (t : ℕ) (calls : List Call) (j : ℕ) (call : Call) (comes : ℕ) → NoneFalls t calls → slice_get calls j ≡ Some call → call.arrives ≡ Some comes → t ≤ comes
+-- no arrival of the calls is before t
+pub comes_later : (t : ℕ) (calls : List Call) (j : ℕ) (call : Call) (comes : ℕ) → NoneFalls t calls → slice_get calls j ≡ Some call → call.arrives ≡ Some comes → t ≤ comes
 comes_later t [] j call comes falls at arrives = absurd (cc)
 comes_later t (first ∷ calls) zero call comes falls at arrives =
     let same : first.arrives ≡ Some comes = cc in
@@ -32,7 +29,8 @@ comes_later t (first ∷ calls) (suc j) call comes falls at arrives =
     let again : latest t first.arrives ≤ latest (latest t first.arrives) first.departs = latest_rises (latest t first.arrives) first.departs falls.1 in
     omega arith
 
-ride_forward :
+-- a later call's arrival is not before the departure
+pub ride_forward :
     (t : ℕ) (calls : List Call) (i j : ℕ) (board alight : Call) (leaves comes : ℕ)
     → NoneFalls t calls → i < j → slice_get calls i ≡ Some board → slice_get calls j ≡ Some alight
     → board.departs ≡ Some leaves → alight.arrives ≡ Some comes → leaves ≤ comes
@@ -50,7 +48,8 @@ ride_forward t (first ∷ calls) (suc i) (suc j) board alight leaves comes falls
 pub leg_region : (table : Timetable) (leg : Leg) → IsLeg table leg → leg.region ≡ table.region
 leg_region table leg ride = ap (λ (it : Leg). it.region) ride.is
 
-moment_forward : (table : Timetable) (day a b : ℕ) → a ≤ b → moment table day a ≤ moment table day b
+-- a moment grows with its offset
+pub moment_forward : (table : Timetable) (day a b : ℕ) → a ≤ b → moment table day a ≤ moment table day b
 unfolding moment
 moment_forward table day a b h = omega arith
 
@@ -69,7 +68,7 @@ moment_bound table day offset well low high h = omega (arith, well.noons_high da
 
 alight_call : (table : Timetable) (leg : Leg) → IsWell table → (ride : IsLeg table leg) → IsWellCall table ride.alight
 alight_call table leg well ride =
-    well.calls ride.journey ride.of_table ride.alight (among_slice_get ride.journey.calls ride.j ride.alight ride.alight_at)
+    well.calls ride.journey ride.of_table ride.alight (among_at ride.journey.calls ride.j ride.alight ride.alight_at)
 
 pub leg_bound : (table : Timetable) (leg : Leg) → IsWell table → IsLeg table leg → leg.arrives ≤ last_moment
 leg_bound table leg well ride =
@@ -86,7 +85,7 @@ leg_alights table leg well ride =
 pub leg_boards : (table : Timetable) (leg : Leg) → IsWell table → IsLeg table leg → IsOfRegion table leg.board
 leg_boards table leg well ride =
     let call : IsWellCall table ride.board =
-    well.calls ride.journey ride.of_table ride.board (among_slice_get ride.journey.calls ride.i ride.board ride.board_at) in
+    well.calls ride.journey ride.of_table ride.board (among_at ride.journey.calls ride.i ride.board ride.board_at) in
     let stop : leg.board ≡ ride.board.stop = ap (λ (it : Leg). it.board) ride.is in
     subst (IsOfRegion table) (sym stop) call.of_region
 

@@ -5,6 +5,7 @@ use Rattle.std.specs.List.{list_any, prefix_len}
 use Rattle.std.proofs.Math.Dec.{eqb}
 use Rattle.std.proofs.lemmas.Bool.{lt-ltb, eqb-true, cases_Bool}
 use Rattle.std.proofs.lemmas.List.Folds.{prefix_len-append}
+use Rattle.ojp_values.proofs.ListFacts.{among_list_any}
 use Rattle.ojp_values.specs.Lists.{Among}
 use Rattle.ojp_values.specs.Texts.{Text, same}
 use Rattle.ojp_timetable.specs.Tables.{Call, Journey, Place, Service, Timetable}
@@ -20,6 +21,7 @@ use Rattle.ojp_timetable.specs.declared.lines.Line.{Line}
 use Rattle.ojp_timetable.specs.declared.lines.Line.TheVariants as lines
 use Rattle.ojp_timetable.specs.declared.lines.TableReason.{TableReason}
 use Rattle.ojp_timetable.specs.declared.lines.TableReason.TheVariants.{ForeignStop, DoubledName, UnknownStop, UnknownService, FallingTimes, Limit}
+use Rattle.ojp_timetable.proofs.AmongFacts.{any_true}
 use Rattle.ojp_timetable.proofs.TextFacts.{same_is, same_itself}
 
 -- ---- places and services
@@ -203,31 +205,6 @@ tables_are_as_said bytes table h = record {
 
 -- ---- what stands above was declared by a line
 
-or_left : (a b : Bool) → a ≡ true → (a || b) ≡ true
-or_left true b h = refl
-or_left false b h = absurd (true≢false (sym h))
-
-or_right : (a b : Bool) → b ≡ true → (a || b) ≡ true
-or_right true b h = refl
-or_right false b h = h
-
-or_later : (a b : Bool) → (a || b) ≡ true → a ≡ false → b ≡ true
-or_later true b h k = absurd (true≢false k)
-or_later false b h k = h
-
-any_among : {X : Type 0} (p : X → Bool) (xs : List X) → list_any p xs ≡ true → (x : X) × Among x xs × (p x ≡ true)
-any_among p [] h = absurd (true≢false (sym h))
-any_among p (x ∷ xs) h =
-    elim (cases_Bool (p x)) [
-      | inl e ↦ (x, inl refl, e)
-      | inr e ↦ let r = any_among p xs (or_later (p x) (list_any p xs) h e) in (r.0, inr r.1, r.2)
-    ]
-
-among_any : {X : Type 0} (p : X → Bool) (xs : List X) (x : X) → Among x xs → p x ≡ true → list_any p xs ≡ true
-among_any p [] x h e = absurd h
-among_any p (y ∷ ys) x (inl same_one) e = or_left (p y) (list_any p ys) (ap p (sym same_one) ∙ e)
-among_any p (y ∷ ys) x (inr h) e = or_right (p y) (list_any p ys) (among_any p ys x h e)
-
 abbrev says_place : Text → Line → Bool
 says_place stop (lines.Place other change name) = same stop other
 says_place stop _ = false
@@ -319,21 +296,21 @@ journey_above texts id =
 pub above_is_as_said : AboveIsAsSaid
 above_is_as_said texts = record {
   place = λ stop. (
-    λ h. let r = any_among (says_place stop) (say texts) (sym (place_above texts stop) ∙ h) in
+    λ h. let r = any_true (says_place stop) (say texts) (sym (place_above texts stop) ∙ h) in
         let is = is_place_line stop r.0 r.2 in
         (is.0, is.1, subst (λ (line : Line). Among line (say texts)) is.2 r.1),
-    λ r. place_above texts stop ∙ among_any (says_place stop) (say texts) (lines.Place stop r.0 r.1) r.2 (same_itself stop),
+    λ r. place_above texts stop ∙ among_list_any (says_place stop) (lines.Place stop r.0 r.1) (say texts) r.2 (same_itself stop),
   );
   service = λ id. (
-    λ h. let r = any_among (says_service id) (say texts) (sym (service_above texts id) ∙ h) in
+    λ h. let r = any_true (says_service id) (say texts) (sym (service_above texts id) ∙ h) in
         let is = is_service_line id r.0 r.2 in
         (is.0, subst (λ (line : Line). Among line (say texts)) is.1 r.1),
-    λ r. service_above texts id ∙ among_any (says_service id) (say texts) (lines.Service id r.0) r.1 (same_itself id),
+    λ r. service_above texts id ∙ among_list_any (says_service id) (lines.Service id r.0) (say texts) r.1 (same_itself id),
   );
   journey = λ id. (
-    λ h. let r = any_among (says_journey id) (say texts) (sym (journey_above texts id) ∙ h) in
+    λ h. let r = any_true (says_journey id) (say texts) (sym (journey_above texts id) ∙ h) in
         let is = is_journey_line id r.0 r.2 in
         (is.0, is.1, subst (λ (line : Line). Among line (say texts)) is.2 r.1),
-    λ r. journey_above texts id ∙ among_any (says_journey id) (say texts) (lines.Journey id r.0 r.1) r.2 (same_itself id),
+    λ r. journey_above texts id ∙ among_list_any (says_journey id) (lines.Journey id r.0 r.1) (say texts) r.2 (same_itself id),
   );
 }
