@@ -2,7 +2,7 @@
 use Rattle.std.proofs.Common.{◌≡◌, ◌≢◌, refl, ℕ, zero, suc, ◌+◌, ◌<◌, ◌≤◌, Bool, true, false, List, [], ◌∷◌, ◌++◌, length, take, drop, get_or, Option, Some, None, ◌⊎◌, inl, inr, sym, ◌∙◌, ap, subst, arith, length-append, take-append-drop, min, length-take-le}
 use Rattle.std.specs.Prelude.{◌==◌, nat_eq, MatchBool}
 use Rattle.std.specs.List.{starts_with}
-use Rattle.std.proofs.lemmas.Bool.{eq-eqb, eqb-true}
+use Rattle.std.proofs.lemmas.Bool.{eq-eqb, eqb-true, cases_lt}
 use Rattle.std.proofs.lemmas.List.{get_or-take, append-nil}
 use Rattle.std.proofs.Math.Seq.{drop-cons}
 use Rattle.memchr.specs.Find.{IsFirstByte, is_byte}
@@ -78,22 +78,16 @@ take_past [] (suc n) h = refl
 take_past (x ∷ xs) zero h = absurd (omega arith)
 take_past (x ∷ xs) (suc n) h = ap (λ l. x ∷ l) (take_past xs n (omega arith))
 
-take_min : (xs : List ℕ) (n : ℕ) → (length xs ≤ n) ⊎ (n < length xs) → take (min (length xs) n) xs ≡ take n xs
-take_min xs n (inl short) =
+take_min : (xs : List ℕ) (n : ℕ) → (n < length xs) ⊎ (length xs ≤ n) → take (min (length xs) n) xs ≡ take n xs
+take_min xs n (inr short) =
     let e : min (length xs) n ≡ length xs = omega arith in
     ap (λ m. take m xs) e ∙ (take_past xs (length xs) (omega arith) ∙ sym (take_past xs n short))
-take_min xs n (inr long) = let e : min (length xs) n ≡ n = omega arith in ap (λ m. take m xs) e
-
--- the place of a number beside another
-compared : (a b : ℕ) → (a ≤ b) ⊎ (b < a)
-compared zero b = inl (omega arith)
-compared (suc a) zero = inr (omega arith)
-compared (suc a) (suc b) = elim (compared a b) [ inl less ↦ inl (omega arith) | inr more ↦ inr (omega arith) ]
+take_min xs n (inl long) = let e : min (length xs) n ≡ n = omega arith in ap (λ m. take m xs) e
 
 pub run_is : (bytes : List ℕ) (found : Option ℕ) → IsFirstByte (is_byte 60) (take (min (length bytes) 513) bytes) found → IsRun bytes found
 run_is bytes None first =
     let P : List ℕ → Type 0 = Run in
-    subst P (take_min bytes 513 (compared (length bytes) 513))
+    subst P (take_min bytes 513 (cases_lt 513 (length bytes)))
     (run_of_index (take (min (length bytes) 513) bytes)
     (λ k less here. first k (omega arith) less (eq-eqb (get_or (take (min (length bytes) 513) bytes) k 0) 60 here)))
 run_is bytes (Some len) first =

@@ -10,6 +10,7 @@ use Rattle.ojp_values.specs.Dates.{two, four, date_of, day_text, clock_text}
 use Rattle.ojp_values.specs.Numbers.{duration_text}
 use Rattle.ojp_values.proofs.Escapes.{escaped_injective}
 use Rattle.ojp_values.proofs.Calendar.{day_text_injective, date_is_writable, days_have_dates}
+use Rattle.ojp_values.proofs.FieldTexts.{moment_text_injective}
 use Rattle.ojp_values.specs.declared.kinds.EventKind.{EventKind as Events}
 use Rattle.ojp_values.specs.declared.kinds.EventKind.TheVariants.{Departure, Arrival}
 use Rattle.ojp_grammar.specs.declared.fields.FieldValue.{FieldValue}
@@ -17,7 +18,7 @@ use Rattle.ojp_grammar.specs.declared.fields.FieldValue.TheVariants.{StopRef, Co
 use Rattle.ojp_grammar.specs.Fields.{kind_of, IsFieldValue, field_text, event_text}
 use Rattle.ojp_grammar.specs.Places.{Run}
 use Rattle.ojp_grammar.proofs.Tests.{either_way, and_left, and_right, or_cases}
-use Rattle.ojp_grammar.proofs.Numbers.{same_duration, same_event, same_moment}
+use Rattle.ojp_grammar.proofs.Numbers.{same_duration, same_event}
 
 -- 1 to 512 bytes, and none of them `<`
 pub record IsRunText (text : List ℕ) : Type 0 where
@@ -224,7 +225,7 @@ one_value (StopRef s) (StopRef t) k f g e = ap StopRef e
 one_value (Code s) (Code t) k f g e = ap Code e
 one_value (Label s) (Label t) k f g e = ap Label e
 one_value (Name s) (Name t) k f g e = ap Name (escaped_injective s t e)
-one_value (Moment m) (Moment n) k f g e = ap Moment (same_moment m n f g e)
+one_value (Moment m) (Moment n) k f g e = ap Moment (moment_text_injective m n f g e)
 one_value (Day m) (Day n) k f g e = ap Day (day_text_injective m n (omega (arith, f)) (omega (arith, g)) e)
 one_value (Seconds m) (Seconds n) k f g e = ap Seconds (same_duration m n (omega (arith, f)) (omega (arith, g)) e)
 one_value (Change m) (Change n) k f g e = ap Change (same_duration m n (omega (arith, f)) (omega (arith, g)) e)

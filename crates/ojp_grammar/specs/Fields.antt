@@ -5,6 +5,7 @@ use Rattle.ojp_values.specs.declared.kinds.Kind.{Kind}
 use Rattle.ojp_values.specs.declared.kinds.Kind.TheVariants as kinds
 use Rattle.ojp_values.specs.declared.kinds.EventKind.{EventKind as Events}
 use Rattle.ojp_values.specs.declared.kinds.EventKind.TheVariants.{Departure, Arrival}
+use Rattle.ojp_values.specs.declared.moments.TheConstants.{FIRST_DAY, LAST_DAY, LAST_SECOND}
 use Rattle.ojp_values.specs.Texts.{is_stop_ref, is_code, is_label, is_name, escaped}
 use Rattle.ojp_values.specs.Dates.{day_text, moment_text}
 use Rattle.ojp_values.specs.Numbers.{duration_text}
@@ -48,8 +49,8 @@ IsFieldValue (StopRef s) = IsTrue (is_stop_ref s)
 IsFieldValue (Code s) = IsTrue (is_code s)
 IsFieldValue (Label s) = IsTrue (is_label s)
 IsFieldValue (Name s) = IsTrue (is_name s)
-IsFieldValue (Moment n) = n ≤ 7_258_118_399
-IsFieldValue (Day n) = (2 ≤ n) × (n ≤ 84_002)
+IsFieldValue (Moment n) = n ≤ LAST_SECOND
+IsFieldValue (Day n) = (FIRST_DAY ≤ n) × (n ≤ LAST_DAY)
 IsFieldValue (Seconds n) = n < 2 ^ 32
 IsFieldValue (Change n) = (1 ≤ n) × (n ≤ 7_200)
 IsFieldValue (Number n) = (1 ≤ n) × (n ≤ 100)

@@ -4,6 +4,7 @@
 ghost use Rattle.std.specs.Prelude.{◌≡◌, ◌++◌, ◌≤◌, IfSome, IsTrue, length};
 ghost use Rattle.ojp_values.specs.Texts.{is_stop_ref, is_code, is_label, is_name, escaped};
 ghost use Rattle.ojp_values.specs.Dates.{moment_text, day_text};
+ghost use Rattle.ojp_values.specs.declared.moments.TheConstants.{FIRST_DAY, LAST_DAY, LAST_SECOND};
 ghost use Rattle.ojp_grammar.specs.Fronts.{ReadsLeg};
 
 use memchr::memchr;
@@ -107,7 +108,7 @@ impl<'a> Front<'a> {
 
     /// Passes over the run, and takes the moment behind it.
     fn moment_behind(&mut self, run: &[u8]) -> Option<Instant>
-        ensures { IfSome result (λ n. (self.old ≡ run.now ++ (moment_text n ++ self.new)) × (n ≤ 7_258_118_399)) }
+        ensures { IfSome result (λ n. (self.old ≡ run.now ++ (moment_text n ++ self.new)) × (n ≤ LAST_SECOND)) }
     {
         take_tag!(self; run);
         Instant::read(self.run())
@@ -115,7 +116,7 @@ impl<'a> Front<'a> {
 
     /// Passes over the run, and takes the day behind it.
     fn day_behind(&mut self, run: &[u8]) -> Option<Day>
-        ensures { IfSome result (λ n. (self.old ≡ run.now ++ (day_text n ++ self.new)) × (2 ≤ n) × (n ≤ 84_002)) }
+        ensures { IfSome result (λ n. (self.old ≡ run.now ++ (day_text n ++ self.new)) × (FIRST_DAY ≤ n) × (n ≤ LAST_DAY)) }
     {
         take_tag!(self; run);
         Day::read(self.run())
