@@ -1,8 +1,9 @@
 -- A run of the machine behind the bytes that are kept.
-use Rattle.std.proofs.Common.{◌≡◌, ◌≢◌, refl, ℕ, zero, suc, ◌⊎◌, inl, inr, ◌+◌, ◌-◌, ◌<◌, ◌≤◌, Bool, true, false, List, [], ◌∷◌, ◌++◌, length, take, drop, Option, Some, None, Err, Ok, min, sym, ◌∙◌, ap, subst, arith, append_assoc, length-append, take-append-drop, length-take-le, length-drop}
+use Rattle.std.proofs.Common.{◌≡◌, ◌≢◌, refl, ℕ, inl, inr, ◌+◌, ◌-◌, ◌<◌, ◌≤◌, Bool, true, false, List, [], ◌∷◌, ◌++◌, length, take, drop, Option, Some, None, Err, Ok, min, sym, ◌∙◌, ap, subst, arith, append_assoc, length-append, take-append-drop, length-take-le, length-drop}
 use Rattle.std.specs.Prelude.{MatchBool, MatchOption}
 use Rattle.std.proofs.lemmas.List.{append-nil, drop-append-le, take-append-le, drop-drop, take_all}
 use Rattle.std.proofs.Math.Seq.{take-append_seam, drop-append_seam}
+use Rattle.std.proofs.lemmas.Bool.{cases_lt}
 use Rattle.ojp_grammar.specs.declared.machine.Machine.{Machine}
 use Rattle.ojp_grammar.specs.declared.refusals.Reason.{Reason}
 use Rattle.ojp_grammar.specs.declared.refusals.Reason.TheVariants.{Truncated}
@@ -66,12 +67,6 @@ ran_refused_here want m bytes left piece kept stop reason refused run is other t
 pub ran_ended : (want : Want) (m : Machine) (bytes piece kept : List ℕ) (took : ℕ) (stop : Option Reason) → HasRun want m bytes (drop took piece) stop → stop ≡ None → took ≤ length piece → kept ≡ [] → ReadsOn want bytes piece (Ok (feds.Whole took)) m kept
 ran_ended want m bytes piece kept took stop run is within none =
     (run.want_is, within, run.stands, ends_none want m bytes (drop took piece) stop run is, none)
-
--- the place of a number beside another
-compared : (a b : ℕ) → (a ≤ b) ⊎ (b < a)
-compared zero b = inl (omega arith)
-compared (suc a) zero = inr (omega arith)
-compared (suc a) (suc b) = elim (compared a b) [ inl less ↦ inl (omega arith) | inr more ↦ inr (omega arith) ]
 
 -- ---- behind the bytes that are kept
 
@@ -189,9 +184,9 @@ none_of (Some reason) not = absurd (not reason refl)
 
 pub passed_all : (old m : Machine) (bytes kept more left : List ℕ) (took before : ℕ) (stop : Option Reason) → IsWaiting old bytes kept → HasRun old.want m (bytes ++ more) left stop → stop ≡ None → m.at ≡ old.at + took → before ≡ length kept → before ≤ took
 passed_all old m bytes kept more left took before stop w run is place size =
-    elim (compared before took) [
-      | inl passed ↦ passed
-      | inr short ↦ absurd (ends_passed old m bytes kept more left took stop w run is place (omega (arith, short, size)))
+    elim (cases_lt took before) [
+      | inr passed ↦ passed
+      | inl short ↦ absurd (ends_passed old m bytes kept more left took stop w run is place (omega (arith, short, size)))
     ]
 
 pub run_behind : (want : Want) (m : Machine) (bytes kept piece joined new : List ℕ) (room took before : ℕ) (stop : Option Reason) → HasRun want m (bytes ++ take room piece) (drop took joined) stop → stop ≡ None → joined ≡ kept ++ take room piece → before ≡ length kept → before ≤ took → took ≤ length joined → new ≡ [] → ReadsOn want (bytes ++ piece) piece (Ok (feds.Whole (took - before))) m new
