@@ -4,6 +4,7 @@ use Rattle.std.specs.List.{AllByRecursion}
 use Rattle.std.proofs.lemmas.List.Elements.{recursion_from_All}
 use Rattle.std.proofs.lemmas.List.{length-map}
 use Rattle.ojp_values.specs.Texts.{is_stop_ref, is_code, is_label, is_name}
+use Rattle.ojp_values.specs.declared.moments.TheConstants.{FIRST_DAY, LAST_DAY, LAST_SECOND}
 use Rattle.ojp_grammar.specs.Syntax.{Syntax, many, Says, Fits}
 use Rattle.ojp_grammar.specs.Grammar.{PLACE, FROM, TO, SERVICE, HALT}
 use Rattle.ojp_grammar.specs.Documents.{place_said, from_said, to_said, service_said, halt_said}
@@ -41,14 +42,14 @@ list_fits {X = X} low high a b f xs ys w e least most behind each =
 pub place_fits : (stop : List ℕ) → IsTrue (is_stop_ref stop) → Fits PLACE (place_said stop)
 place_fits stop h = (tt, ((tt, h), tt))
 
-pub from_fits : (stop : List ℕ) (start : ℕ) → IsTrue (is_stop_ref stop) → start ≤ 7_258_118_399 → Fits FROM (from_said stop start)
+pub from_fits : (stop : List ℕ) (start : ℕ) → IsTrue (is_stop_ref stop) → start ≤ LAST_SECOND → Fits FROM (from_said stop start)
 from_fits stop start h k = (tt, ((place_fits stop h, (tt, k)), tt))
 
 pub to_fits : (stop : List ℕ) → IsTrue (is_stop_ref stop) → Fits TO (to_said stop)
 to_fits stop h = (tt, (place_fits stop h, tt))
 
-pub service_fits : (day : ℕ) (journey line region : List ℕ) → 2 ≤ day → day ≤ 84_002 → IsTrue (is_label journey) → IsTrue (is_label line) → IsTrue (is_code region) → Fits SERVICE (service_said day journey line region)
+pub service_fits : (day : ℕ) (journey line region : List ℕ) → FIRST_DAY ≤ day → day ≤ LAST_DAY → IsTrue (is_label journey) → IsTrue (is_label line) → IsTrue (is_code region) → Fits SERVICE (service_said day journey line region)
 service_fits day journey line region low high j l r = (tt, (((tt, (low, high)), ((tt, j), ((tt, l), (tt, r)))), tt))
 
-pub halt_fits : (stop name : List ℕ) (moment : ℕ) → IsTrue (is_stop_ref stop) → IsTrue (is_name name) → moment ≤ 7_258_118_399 → Fits HALT (halt_said stop name moment)
+pub halt_fits : (stop name : List ℕ) (moment : ℕ) → IsTrue (is_stop_ref stop) → IsTrue (is_name name) → moment ≤ LAST_SECOND → Fits HALT (halt_said stop name moment)
 halt_fits stop name moment s n m = ((tt, s), ((tt, n), (tt, m)))
