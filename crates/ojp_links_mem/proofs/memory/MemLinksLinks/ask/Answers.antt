@@ -22,8 +22,8 @@ asked-requires c =
     sym (ap (λ (rs : List Region). answering (said_in m.script.entries c.saturating_add-made.result) (table_number (slice_get rs c.args.region))) c.deref.ensures.value) ∙ sym c.in-Some.ensures in
     answer_below m c.args.region c.in-Some.number (said_in m.script.entries c.saturating_add-made.result) c.self.invariant (region_below m c.args.self.now c.args.region c.self.view_is c.requires) answers
 
-pub returns-clause-asks : goal.returns-clause-asks
-returns-clause-asks c =
+pub returns : goal.returns
+returns c =
     let m = c.self.inside in
     let n = record m { servers = c.asked.new.servers; asks = c.insert.new.self; made = c.saturating_add-made.result; patience = c.max-self-inside.result } in
     let said = said_in m.script.entries n.made in
@@ -32,21 +32,12 @@ returns-clause-asks c =
     sym (ap (λ (rs : List Region). answering said (table_number (slice_get rs c.args.region))) c.deref.ensures.value) ∙ sym c.in-Some.ensures in
     let it = table_there m.servers.items c.in-Some.number (answer_below m c.args.region c.in-Some.number said c.self.invariant below answers) in
     let made = subst (λ k. IsMade c.args.region c.args.request.now k said it.0 c.in-Ok.pending) c.rests_of-rests.ensures (subst (λ (o : Option What). IsMade c.args.region c.args.request.now c.rests_of-rests.result o it.0 c.in-Ok.pending) c.get-said.ensures.value (c.in-Ok.ensures.made it.0 it.1)) in
-    subst (λ (v : MemView). Asks (links_of v) (links_of (view_of n)) c.args.region c.args.request.now (Ok (record { key = c.in-Ok-insert.key }))) c.self.view_is
-    (begins_at m n c.args.region c.in-Ok-insert.key c.args.request.now said it.0 c.in-Ok.pending (record { tables_same = c.asked.ensures.same; script_same = refl; order_same = refl; most_same = refl; servers_same = refl; tells_same = refl }) refl c.saturating_add-made.ensures c.in-Ok-insert.ensures.was_vacant c.in-Ok-insert.ensures.updates.changed c.in-Ok-insert.ensures.updates.others made)
-
-pub returns-clause-by : goal.returns-clause-by
-returns-clause-by c =
-    let m = c.self.inside in
-    let n = record m { servers = c.asked.new.servers; asks = c.insert.new.self; made = c.saturating_add-made.result; patience = c.max-self-inside.result } in
-    let said = said_in m.script.entries n.made in
-    let below = region_below m c.args.self.now c.args.region c.self.view_is c.requires in
-    let answers : answering said (table_number (slice_get m.regions.items c.args.region)) ≡ Some c.in-Some.number =
-    sym (ap (λ (rs : List Region). answering said (table_number (slice_get rs c.args.region))) c.deref.ensures.value) ∙ sym c.in-Some.ensures in
-    let it = table_there m.servers.items c.in-Some.number (answer_below m c.args.region c.in-Some.number said c.self.invariant below answers) in
-    let made = subst (λ k. IsMade c.args.region c.args.request.now k said it.0 c.in-Ok.pending) c.rests_of-rests.ensures (subst (λ (o : Option What). IsMade c.args.region c.args.request.now c.rests_of-rests.result o it.0 c.in-Ok.pending) c.get-said.ensures.value (c.in-Ok.ensures.made it.0 it.1)) in
-    subst (λ (v : MemView). AsksBy v (view_of n) c.args.region c.args.request.now (Ok (record { key = c.in-Ok-insert.key }))) c.self.view_is
-    (makes_by m n c.args.region c.in-Ok-insert.key c.args.request.now c.in-Some.number it.0 c.in-Ok.pending (record { tables_same = c.asked.ensures.same; script_same = refl; order_same = refl; most_same = refl; servers_same = refl; tells_same = refl }) refl c.saturating_add-made.ensures refl answers it.1 c.in-Ok-insert.ensures.updates.changed made)
+    record {
+      asks = subst (λ (v : MemView). Asks (links_of v) (links_of (view_of n)) c.args.region c.args.request.now (Ok (record { key = c.in-Ok-insert.key }))) c.self.view_is
+          (begins_at m n c.args.region c.in-Ok-insert.key c.args.request.now said it.0 c.in-Ok.pending (record { tables_same = c.asked.ensures.same; script_same = refl; order_same = refl; most_same = refl; servers_same = refl; tells_same = refl }) refl c.saturating_add-made.ensures c.in-Ok-insert.ensures.was_vacant c.in-Ok-insert.ensures.updates.changed c.in-Ok-insert.ensures.updates.others made);
+      by = subst (λ (v : MemView). AsksBy v (view_of n) c.args.region c.args.request.now (Ok (record { key = c.in-Ok-insert.key }))) c.self.view_is
+          (makes_by m n c.args.region c.in-Ok-insert.key c.args.request.now c.in-Some.number it.0 c.in-Ok.pending (record { tables_same = c.asked.ensures.same; script_same = refl; order_same = refl; most_same = refl; servers_same = refl; tells_same = refl }) refl c.saturating_add-made.ensures refl answers it.1 c.in-Ok-insert.ensures.updates.changed made);
+    }
 
 pub invariant_of-self : goal.invariant_of-self
 invariant_of-self c =

@@ -37,8 +37,8 @@ invariant_of-self c =
     let counted = counted_by m n it.ask.region there.0 c.look_at-answer.result there.1 counts later in
     whole_looked m n key c.look_at-answer.result it.ask after.0 c.self.invariant (record { tables_same = refl; script_same = refl; order_same = refl; most_same = refl; servers_same = refl; tells_same = refl }) refl it.at after.1 c.look_at-answer.ensures.others_stay after.2 counts counted
 
-pub returns-clause-looks : goal.returns-clause-looks
-returns-clause-looks c =
+pub returns : goal.returns
+returns c =
     let m = c.self.inside in
     let key = c.args.sub.now.key in
     let n = record m { asks = c.look_at-answer.new.asks; regions = c.count_look.new.regions } in
@@ -48,15 +48,9 @@ returns-clause-looks c =
     let there = region_there m.regions.items it.ask.region (c.self.invariant.kept key it.ask it.at).of_region in
     let later = subst (λ (r : ℕ). c.look_at-answer.result ≡ More.Failed → IfSome (slice_get m.regions.items r) DoesNotFall) (c.region_of-region.ensures it.ask it.at) c.count_look.ensures.later in
     let counted = counted_by m n it.ask.region there.0 c.look_at-answer.result there.1 counts later in
-    subst (λ (v : MemView). Looks (links_of v) (links_of (view_of n)) key c.look_at-answer.result) c.self.view_is
-    (looks_at m n key c.look_at-answer.result it.ask after.0 c.self.invariant (record { tables_same = refl; script_same = refl; order_same = refl; most_same = refl; servers_same = refl; tells_same = refl }) refl refl it.at after.1 c.look_at-answer.ensures.others_stay after.2 counted)
-
-pub returns-clause-by : goal.returns-clause-by
-returns-clause-by c =
-    let m = c.self.inside in
-    let key = c.args.sub.now.key in
-    let n = record m { asks = c.look_at-answer.new.asks; regions = c.count_look.new.regions } in
-    let it = found_live m c.args.self.now key c.self.view_is c.requires in
-    let after = c.look_at-answer.ensures.looks_at it.ask it.at in
-    let counts = subst (λ (r : ℕ). CountsLook c.look_at-answer.result m.regions.items n.regions.items r) (c.region_of-region.ensures it.ask it.at) c.count_look.ensures.counts in
-    subst (λ (v : MemView). GivesBy v (view_of n) key c.look_at-answer.result) c.self.view_is (gives_by m n key c.look_at-answer.result it.ask (record { tables_same = refl; script_same = refl; order_same = refl; most_same = refl; servers_same = refl; tells_same = refl }) refl it.at c.look_at-answer.ensures counts)
+    record {
+      looks = subst (λ (v : MemView). Looks (links_of v) (links_of (view_of n)) key c.look_at-answer.result) c.self.view_is
+          (looks_at m n key c.look_at-answer.result it.ask after.0 c.self.invariant (record { tables_same = refl; script_same = refl; order_same = refl; most_same = refl; servers_same = refl; tells_same = refl }) refl refl it.at after.1 c.look_at-answer.ensures.others_stay after.2 counted);
+      by = subst (λ (v : MemView). GivesBy v (view_of n) key c.look_at-answer.result) c.self.view_is
+          (gives_by m n key c.look_at-answer.result it.ask (record { tables_same = refl; script_same = refl; order_same = refl; most_same = refl; servers_same = refl; tells_same = refl }) refl it.at c.look_at-answer.ensures counts);
+    }
