@@ -1,7 +1,7 @@
 -- The files of a network are texts of timetables.
 use Rattle.std.specs.Prelude.{◌≡◌, ◌≢◌, ◌≤◌, ℕ, true, List, [], ◌∷◌, ◌++◌, codes, length, map}
 use Rattle.ojp_timetable.specs.Tables.{Service, Timetable}
-use Rattle.ojp_timetable.specs.TableText.{JoinFails, IsText}
+use Rattle.ojp_timetable.specs.TableText.{IsTextRefused, IsText}
 use Rattle.ojp_timetable.specs.declared.lines.TableReason.{TableReason}
 use Rattle.ojp_values.specs.Lists.{Each, IsRising, Pairwise}
 use Rattle.ojp_values.specs.Texts.{Text, text_lt}
@@ -44,7 +44,7 @@ drawn_table z region noons = record {
 
 -- the file of a region is the text of the timetable of its values, and of no other
 pub record IsDrawnText (z region : ℕ) : Type 0 where
-  pub accepted : (line : ℕ) (reason : TableReason) → JoinFails (file z region) line reason → ⊥
+  pub accepted : (line : ℕ) (reason : TableReason) → IsTextRefused (file z region) line reason → ⊥
   pub table : (table : Timetable) → IsText (file z region) table → table ≡ drawn_table z region table.noons
 
 abbrev pub FilesAreTexts : Type 0
@@ -58,7 +58,7 @@ AreTables number tables = Pairwise IsText (files number) tables
 
 -- no file of a network is refused
 abbrev pub FilesAreAccepted : Type 0
-FilesAreAccepted = (number : ℕ) → Each (λ (bytes : Text). (line : ℕ) (reason : TableReason) → JoinFails bytes line reason → ⊥) (files number)
+FilesAreAccepted = (number : ℕ) → Each (λ (bytes : Text). (line : ℕ) (reason : TableReason) → IsTextRefused bytes line reason → ⊥) (files number)
 
 -- the codes of the timetables rise
 abbrev pub CodesRise : Type 0

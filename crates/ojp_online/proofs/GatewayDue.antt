@@ -13,7 +13,7 @@ use Rattle.ojp_exchange.specs.declared.region_points.RegionPoints.{RegionPoints}
 use Rattle.ojp_exchange.specs.declared.refusals.BookRefused.{BookRefused}
 use Rattle.ojp_exchange.specs.declared.refusals.BookRefused.TheVariants as refusals
 use Rattle.ojp_links.specs.Seen.{View, TellsTables}
-use Rattle.ojp_regions.specs.RegionsText.{JoinFails, IsText}
+use Rattle.ojp_regions.specs.RegionsText.{IsListRefused, IsText}
 use Rattle.ojp_regions.specs.declared.line.RegionLine.{RegionLine}
 use Rattle.ojp_regions.proofs.RegionFacts.{text_not_refused}
 use Rattle.ojp_gateway.specs.Learning.{FailsFirst, IsLearned, IsRefusedHeard}
@@ -45,13 +45,13 @@ module _ {F : Type 0} (file : Text) (store : Lent F StoreView) (bytes : Text) (r
       let short : length is.bytes ≤ FILE_LIMIT = is.within in
       omega (arith, ap length (same_bytes is.bytes is.held), short, long)
 
-  accepted_or_refused : (regions : List RegionLine) (line : ℕ) (reason : TableReason) → IsFileOf file store regions → JoinFails bytes line reason → ⊥
+  accepted_or_refused : (regions : List RegionLine) (line : ℕ) (reason : TableReason) → IsFileOf file store regions → IsListRefused bytes line reason → ⊥
   accepted_or_refused regions line reason is refused =
       text_not_refused bytes regions line reason (subst (λ (b : Text). IsText b regions) (same_bytes is.bytes is.held) is.is_text) refused
 
   refused_or_accepted : (regions : List RegionLine) (line : ℕ) (reason : TableReason) → IsRefusedFile file store line reason → IsText bytes regions → ⊥
   refused_or_accepted regions line reason is text =
-      text_not_refused bytes regions line reason text (subst (λ (b : Text). JoinFails b line reason) (same_bytes is.bytes is.held) is.refused)
+      text_not_refused bytes regions line reason text (subst (λ (b : Text). IsListRefused b line reason) (same_bytes is.bytes is.held) is.refused)
 
 -- ---- the book
 
