@@ -202,13 +202,13 @@ module _ {H : Type 0} (Reads : List ℕ → H → List ℕ → Type 0) (fields :
         absurd (cc))
         (not_full_by most bytes s is shut)
 
-    -- a trailer that does not end in a line feed is not all there
-    pub unended : {F : Type 0} (frame : H → F) → Grammar Reads fields 0 → (bytes kept : List ℕ) (newest : ℕ) (s : Scan) → HasGrown Reads fields most bytes
+    -- a head or a trailer that does not end in a line feed is not all there
+    pub unended : {F : Type 0} (frame : H → F) (extra : ℕ) → Grammar Reads fields extra → (bytes kept : List ℕ) (newest : ℕ) (s : Scan) → HasGrown Reads fields most bytes
         → s ≡ scan_from no_lines bytes → bytes ≡ kept ++ newest ∷ [] → (newest ≡ 10 → ⊥) → is_full_by most (length bytes) s ≡ false → Decides Reads fields most bad large frame bytes (Ok None)
-    unended frame grammar bytes kept newest s g is ends other shut =
+    unended frame extra grammar bytes kept newest s g is ends other shut =
         decides_more frame bytes g
         (λ h reads.
-        let fed = heading_ends_in (length (fields h) + 0) bytes (grammar.heading bytes h reads) in
+        let fed = heading_ends_in (length (fields h) + extra) bytes (grammar.heading bytes h reads) in
         absurd (other (same_last kept fed.0 newest 10 (sym ends ∙ fed.1))))
         (not_full_by most bytes s is shut)
 

@@ -11,6 +11,7 @@ pub mod MachineFacts
 pub mod Scans
 pub mod Tests
 pub mod Stepping
+pub mod Runs
 pub mod Tallies
 pub mod Unique
 pub mod WholeMessages

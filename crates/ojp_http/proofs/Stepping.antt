@@ -11,7 +11,6 @@ use Rattle.ojp_http.specs.declared.machine.Framing.{Framing}
 use Rattle.ojp_http.specs.declared.machine.Stop.{Stop}
 use Rattle.ojp_http.specs.declared.machine.Stop.TheVariants.{Refused, NoMemory}
 use Rattle.std.proofs.lemmas.Bool.Decides.{nat_tests}
-use Rattle.std.proofs.lemmas.List.Folds.{list_all-append}
 use Rattle.ojp_http.specs.Verdicts.{Verdict, whole, refused, cut, after}
 use Rattle.ojp_http.specs.Heads.{HasHead, HasNoHead, IsFullAt, Begins, found, malformed, full}
 use Rattle.ojp_http.specs.Bodies.{EndsHere, Takes, taken as takes_all, short as takes_short, EndsChunk, ended as chunk_ended, begun as chunk_begun, other as chunk_other, Chunks, Trailer, ReadsTrailer, Sized, last as size_last, chunk as size_chunk, over as size_over, room_after, Frames, has_no_feed, Asks, Replies, ReadsLine, ReadsLines}
@@ -22,6 +21,7 @@ use Rattle.ojp_http.specs.Scanned.{no_lines, scan_from, scan_step}
 use Rattle.ojp_http.specs.declared.scan.Scan.{Scan}
 use Rattle.ojp_http.proofs.Scans.{scan_from-append}
 use Rattle.ojp_http.proofs.Full.{counted_from}
+use Rattle.ojp_http.proofs.Grammars.{no_feed_append}
 use Rattle.ojp_http.proofs.Headed.{full_now}
 use Rattle.ojp_http.proofs.MachineFacts.{after-nil, content_reads, chunk_reads, content_open, chunk_open, content_work, chunk_work, not_content, not_chunk}
 
@@ -52,6 +52,10 @@ pub refuse_at : (old : Framing) (p : Place) (front : List ℕ) (e : Refusal) →
 refuse_at old p front e a reads rest = subst (λ (r : Place). ReadsAt r old.room old.kept.items (front ++ rest) (refused e)) (sym a) (reads rest)
 
 -- ---- a byte more
+
+-- so with a run of bytes
+pub run_rest : (kept new run rest : List ℕ) → new ≡ kept ++ run → new ++ rest ≡ kept ++ (run ++ rest)
+run_rest kept new run rest e = ap (λ (l : List ℕ). l ++ rest) e ∙ append_assoc kept run rest
 
 pub kept_rest : (kept new rest : List ℕ) (b : ℕ) → new ≡ kept ++ b ∷ [] → new ++ rest ≡ kept ++ b ∷ rest
 kept_rest kept new rest b e = ap (λ (l : List ℕ). l ++ rest) e ∙ append_assoc kept (b ∷ []) rest
@@ -100,57 +104,61 @@ module _ {H : Type 0} (R : List ℕ → H → List ℕ → Type 0) (fields : H �
 -- ---- heads
 
 -- a head that is not all there
-pub more_at : (old new : Framing) (b most : ℕ) (p : Place) (M : List ℕ → Verdict → Type 0) → old.place ≡ p → new.place ≡ p
-    → new.kept.items ≡ old.kept.items ++ b ∷ []
+more_at : (old new : Framing) (run : List ℕ) (p : Place) (M : List ℕ → Verdict → Type 0) → old.place ≡ p → new.place ≡ p
+    → new.kept.items ≡ old.kept.items ++ run
     → ((room : Option ℕ) (kept rest : List ℕ) (v : Verdict) → (ReadsAt p room kept rest v → M (kept ++ rest) v) × (M (kept ++ rest) v → ReadsAt p room kept rest v))
     → IsOpenAt p new.kept.items new.scan
-    → SpendsBy (limit_at p old.room) p (length old.kept.items) new.room p (length new.kept.items) 1 0
-    → Moves old new (b ∷ []) []
-more_at old new b most p M a c k is ready spends =
-    move_at old new p p (b ∷ []) [] a c
+    → SpendsBy (limit_at p old.room) p (length old.kept.items) new.room p (length new.kept.items) (length run) 0
+    → Moves old new run []
+more_at old new run p M a c k is ready spends =
+    move_at old new p p run [] a c
     (λ rest v x.
     let y : M (new.kept.items ++ rest) v = (is new.room new.kept.items rest v).0 x in
-    let z : M (old.kept.items ++ b ∷ rest) v = subst (λ (l : List ℕ). M l v) (kept_rest old.kept.items new.kept.items rest b k) y in
-    (is old.room old.kept.items (b ∷ rest) (after [] v)).1 (subst (λ (w : Verdict). M (old.kept.items ++ b ∷ rest) w) (sym (after-nil v)) z))
+    let z : M (old.kept.items ++ (run ++ rest)) v = subst (λ (l : List ℕ). M l v) (run_rest old.kept.items new.kept.items run rest k) y in
+    (is old.room old.kept.items (run ++ rest) (after [] v)).1 (subst (λ (w : Verdict). M (old.kept.items ++ (run ++ rest)) w) (sym (after-nil v)) z))
     ready spends
 
-by_room : (old new : Framing) (p : Place) → p ≢ ReplyHead → new.room ≡ old.room
-    → ((room : ℕ) → (1 + work_at p room (length new.kept.items) ≤ work_at p room (length old.kept.items)) × (0 + room_at p room ≤ room_at p room))
-    → (o : Option ℕ) → new.room ≡ o → SpendsBy o p (length old.kept.items) new.room p (length new.kept.items) 1 0
-by_room old new p np r spends None e = tt
-by_room old new p np r spends (Some room) e =
-    subst (λ (q : Option ℕ). SpendsBy (Some room) p (length old.kept.items) q p (length new.kept.items) 1 0) (sym e) (let w = spends room in (w.0, w.1, np))
+by_room : (old new : Framing) (p : Place) (n : ℕ) → p ≢ ReplyHead → new.room ≡ old.room
+    → ((room : ℕ) → (n + work_at p room (length new.kept.items) ≤ work_at p room (length old.kept.items)) × (0 + room_at p room ≤ room_at p room))
+    → (o : Option ℕ) → new.room ≡ o → SpendsBy o p (length old.kept.items) new.room p (length new.kept.items) n 0
+by_room old new p n np r spends None e = tt
+by_room old new p n np r spends (Some room) e =
+    subst (λ (q : Option ℕ). SpendsBy (Some room) p (length old.kept.items) q p (length new.kept.items) n 0) (sym e) (let w = spends room in (w.0, w.1, np))
+
+-- the bytes kept are so many more
+run_length : (kept new run : List ℕ) → new ≡ kept ++ run → length new ≡ length kept + length run
+run_length kept new run e = ap length e ∙ length-append kept run
 
 -- one byte was kept
 one_more : (kept new : List ℕ) (b : ℕ) → new ≡ kept ++ b ∷ [] → length new ≡ length kept + 1
-one_more kept new b e = ap length e ∙ length-append kept (b ∷ [])
+one_more kept new b e = run_length kept new (b ∷ []) e
 
-pub head_more : (old new : Framing) (b : ℕ) → old.place ≡ Head → new.place ≡ Head → new.room ≡ old.room → new.kept.items ≡ old.kept.items ++ b ∷ []
-    → IsCounted 66 old.kept.items old.scan → IsOpenAt Head new.kept.items new.scan → Moves old new (b ∷ []) []
-head_more old new b a c r k counted ready =
-    more_at old new b 66 Head Asks a c k (λ room kept rest v. (λ x. x, λ x. x)) ready
-    (by_room old new Head (λ e. cc) r (λ room. (omega (arith, short_kept 66 old.kept.items old.scan counted, one_more old.kept.items new.kept.items b k), omega arith)) old.room r)
+pub head_more : (old new : Framing) (run : List ℕ) → old.place ≡ Head → new.place ≡ Head → new.room ≡ old.room → new.kept.items ≡ old.kept.items ++ run
+    → IsOpenAt Head new.kept.items new.scan → Moves old new run []
+head_more old new run a c r k ready =
+    more_at old new run Head Asks a c k (λ room kept rest v. (λ x. x, λ x. x)) ready
+    (by_room old new Head (length run) (λ e. cc) r (λ room. (omega (arith, short_kept 66 new.kept.items new.scan ready.1, run_length old.kept.items new.kept.items run k), omega arith)) old.room r)
 
-pub reply_more : (old new : Framing) (b : ℕ) → old.place ≡ ReplyHead → new.place ≡ ReplyHead → new.kept.items ≡ old.kept.items ++ b ∷ []
-    → IsOpenAt ReplyHead new.kept.items new.scan → Moves old new (b ∷ []) []
-reply_more old new b a c k ready = more_at old new b 66 ReplyHead Replies a c k (λ room kept rest v. (λ x. x, λ x. x)) ready tt
+pub reply_more : (old new : Framing) (run : List ℕ) → old.place ≡ ReplyHead → new.place ≡ ReplyHead → new.kept.items ≡ old.kept.items ++ run
+    → IsOpenAt ReplyHead new.kept.items new.scan → Moves old new run []
+reply_more old new run a c k ready = more_at old new run ReplyHead Replies a c k (λ room kept rest v. (λ x. x, λ x. x)) ready tt
 
-pub trailer_more : (old new : Framing) (b : ℕ) → old.place ≡ Trailing → new.place ≡ Trailing → new.room ≡ old.room → new.kept.items ≡ old.kept.items ++ b ∷ []
-    → IsCounted 65 old.kept.items old.scan → IsOpenAt Trailing new.kept.items new.scan → Moves old new (b ∷ []) []
-trailer_more old new b a c r k counted ready =
-    more_at old new b 65 Trailing Trailer a c k (λ room kept rest v. (λ x. x, λ x. x)) ready
-    (by_room old new Trailing (λ e. cc) r (λ room. (omega (arith, short_kept 65 old.kept.items old.scan counted, one_more old.kept.items new.kept.items b k), omega arith)) old.room r)
+pub trailer_more : (old new : Framing) (run : List ℕ) → old.place ≡ Trailing → new.place ≡ Trailing → new.room ≡ old.room → new.kept.items ≡ old.kept.items ++ run
+    → IsOpenAt Trailing new.kept.items new.scan → Moves old new run []
+trailer_more old new run a c r k ready =
+    more_at old new run Trailing Trailer a c k (λ room kept rest v. (λ x. x, λ x. x)) ready
+    (by_room old new Trailing (length run) (λ e. cc) r (λ room. (omega (arith, short_kept 65 new.kept.items new.scan ready.1, run_length old.kept.items new.kept.items run k), omega arith)) old.room r)
 
-pub line_more : (old new : Framing) (b : ℕ) → old.place ≡ Line → new.place ≡ Line → new.room ≡ old.room → new.kept.items ≡ old.kept.items ++ b ∷ []
-    → length old.kept.items < 256 → IsOpenAt Line new.kept.items new.scan → Moves old new (b ∷ []) []
-line_more old new b a c r k lt ready =
-    move_at old new Line Line (b ∷ []) [] a c
+pub line_more : (old new : Framing) (run : List ℕ) → old.place ≡ Line → new.place ≡ Line → new.room ≡ old.room → new.kept.items ≡ old.kept.items ++ run
+    → IsOpenAt Line new.kept.items new.scan → Moves old new run []
+line_more old new run a c r k ready =
+    move_at old new Line Line run [] a c
     (λ rest v x.
-    subst (λ (w : Verdict). Chunks old.room (old.kept.items ++ b ∷ rest) w) (sym (after-nil v))
-    (subst (λ (l : List ℕ). Chunks old.room l v) (kept_rest old.kept.items new.kept.items rest b k)
+    subst (λ (w : Verdict). Chunks old.room (old.kept.items ++ (run ++ rest)) w) (sym (after-nil v))
+    (subst (λ (l : List ℕ). Chunks old.room l v) (run_rest old.kept.items new.kept.items run rest k)
     (subst (λ (o : Option ℕ). Chunks o (new.kept.items ++ rest) v) r x)))
     ready
-    (by_room old new Line (λ e. cc) r (λ room. (omega (arith, lt, one_more old.kept.items new.kept.items b k), omega arith)) old.room r)
+    (by_room old new Line (length run) (λ e. cc) r (λ room. (omega (arith, ready.0, run_length old.kept.items new.kept.items run k), omega arith)) old.room r)
 
 -- ---- a head is found
 
@@ -308,7 +316,7 @@ test_of_ne : (a b : ℕ) → (a ≡ b → ⊥) → (a == b) ≡ false
 test_of_ne a b h = grind (arith, nat_tests)
 
 no_feed_more : (kept : List ℕ) (b : ℕ) → has_no_feed kept ≡ true → (b == 10) ≡ false → has_no_feed (kept ++ b ∷ []) ≡ true
-no_feed_more kept b plain e = list_all-append (λ n. not (n == 10)) kept (b ∷ []) ∙ (λ i. plain i && (not (e i) && true))
+no_feed_more kept b plain e = no_feed_append kept (b ∷ []) plain (λ i. not (e i) && true)
 
 pub line_long : (old : Framing) (b : ℕ) (bytes : List ℕ) → old.place ≡ Line → bytes ≡ old.kept.items ++ b ∷ [] → (b ≡ 10 → ⊥) → length bytes ≡ 256 → has_no_feed old.kept.items ≡ true
     → (rest : List ℕ) → Reads old (b ∷ rest) (refused refusals.Chunk)
@@ -323,7 +331,7 @@ line_long old b bytes a k ten limit plain =
 pub line_open : (old new : Framing) (b : ℕ) → old.place ≡ Line → new.place ≡ Line → new.room ≡ old.room → new.kept.items ≡ old.kept.items ++ b ∷ [] → (b ≡ 10 → ⊥)
     → length old.kept.items < 256 → has_no_feed old.kept.items ≡ true → (length new.kept.items ≡ 256 → ⊥) → Moves old new (b ∷ []) []
 line_open old new b a c r k ten lt plain unfull =
-    line_more old new b a c r k lt (omega (arith, lt, one_more old.kept.items new.kept.items b k, unfull), ap has_no_feed k ∙ no_feed_more old.kept.items b plain (test_of_ne b 10 ten))
+    line_more old new (b ∷ []) a c r k (omega (arith, lt, one_more old.kept.items new.kept.items b k, unfull), ap has_no_feed k ∙ no_feed_more old.kept.items b plain (test_of_ne b 10 ten))
 
 -- ---- the line end behind a chunk
 

@@ -72,6 +72,23 @@ is_whole_at (Return has_return) = false
 is_whole_at Trailing = false
 is_whole_at Whole = true
 
+-- how many bytes fill what is kept of a head, of a chunk line or of a trailer
+abbrev pub most_kept_at : Place → ℕ
+most_kept_at Head = 16384
+most_kept_at ReplyHead = 16384
+most_kept_at (Content left) = 0
+most_kept_at Line = 256
+most_kept_at (Data left) = 0
+most_kept_at (Return has_return) = 0
+most_kept_at Trailing = 16384
+most_kept_at Whole = 0
+
+-- a run in front of the piece that holds no line feed and does not fill what is kept
+pub record IsRun (most kept : ℕ) (piece : List ℕ) (n : ℕ) : Type 0 where
+  pub within : n ≤ length piece
+  pub plain : has_no_feed (take n piece) ≡ true
+  pub unfull : 0 < n → kept + n < most
+
 -- one byte, where a step by one was made
 abbrev pub one_of : Result Unit Stop → Result ℕ Stop
 one_of (Ok u) = Ok 1

@@ -1,4 +1,4 @@
--- Counting lines byte by byte.
+-- Counting lines, by bytes and by runs of bytes.
 use Rattle.std.specs.Prelude.{ℕ, ◌+◌, Bool, true, false, not, ◌&&◌, ◌||◌, List, [], ◌∷◌, if◌then◌else◌, ◌==◌, nat_le}
 use Rattle.ojp_http.specs.declared.scan.Begun.{Begun}
 use Rattle.ojp_http.specs.declared.scan.Begun.TheVariants.{Nothing, Return, Other}
@@ -13,6 +13,12 @@ abbrev pub begun_step : Begun → ℕ → Begun
 begun_step Nothing b = if b == 13 then Return else Other
 begun_step Return b = Other
 begun_step Other b = Other
+
+-- the line that has begun, after a run of bytes without a line feed
+abbrev pub begun_run : Begun → List ℕ → Begun
+begun_run begun [] = begun
+begun_run begun (b ∷ []) = begun_step begun b
+begun_run begun (b ∷ c ∷ run) = Other
 
 -- a line without bytes, or with a carriage return alone, is empty; those at the front are not counted
 abbrev pub end_by : Begun → ℕ → Bool → Scan

@@ -1,7 +1,7 @@
 //! The machine that frames a message: it keeps the bytes of a head, of a chunk line or of a trailer,
 //! and hands on those of the body at once.
-ghost use Rattle.std.specs.Prelude.{◌≡◌, ◌≢◌, ◌++◌, ◌∷◌, [], ◌<◌, ◌≤◌, ◌+◌, OnOk, IfErr, MatchResult, Some, None, ◌^◌, ◌-◌, min, length, true, false};
-ghost use Rattle.ojp_http.specs.Machine.{IsOpen, IsNewRequest, IsNewReply, StepsBy, Enters, Follows, IsBounded, Steps, Feeds, content_left, chunk_left, chunk_start, is_whole_at, one_of};
+ghost use Rattle.std.specs.Prelude.{◌≡◌, ◌≢◌, ◌++◌, ◌∷◌, [], ◌<◌, ◌≤◌, ◌+◌, OnOk, IfErr, MatchResult, Some, None, ◌^◌, ◌-◌, ℕ, List as Items, min, length, true, false};
+ghost use Rattle.ojp_http.specs.Machine.{IsOpen, IsNewRequest, IsRun, IsNewReply, StepsBy, Enters, Follows, IsBounded, Steps, Feeds, content_left, chunk_left, chunk_start, is_whole_at, most_kept_at, one_of};
 ghost use Rattle.ojp_http.specs.Bodies.{room_after, IsAbove};
 ghost use Rattle.ojp_http.specs.ChunkLines.{EndsLine, IsLineSize};
 ghost use Rattle.ojp_http.specs.Scanned.{no_lines, scan_step};
@@ -10,8 +10,9 @@ ghost use Rattle.ojp_http.specs.declared.machine.Place.TheVariants.{Head, ReplyH
 use crate::fields::BODY_LIMIT;
 use crate::head::{request_frame, response_frame, trailer_end};
 use crate::refusal::{Frame, Refusal};
-use crate::scan::Scan;
+use crate::scan::{HEAD_LIMIT, Scan};
 use httparse::{Status, parse_chunk_size};
+use memchr::memchr;
 use std::alloc::Global;
 
 /// The most bytes of a chunk line.
@@ -195,6 +196,21 @@ impl Framing {
         Ok(())
     }
 
+    /// Keeps a run of bytes of a line.
+    fn keep_run(&mut self, count: usize, piece: &[u8]) -> Result<usize, Stop>
+        requires ready { IsOpen self.old }
+        requires run { IsRun (most_kept_at self.old.place) (length self.old.kept.items) piece.now count }
+        requires some { 0 < count }
+        ensures { (body : Items ℕ) → Steps self.old piece.now body result self.new body }
+    {
+        let run = &piece[..count];
+        let Ok(()) = self.kept.extend_from_slice(run) else {
+            return Err(Stop::NoMemory);
+        };
+        self.scan = self.scan.after_run(run);
+        Ok(count)
+    }
+
     /// One byte of the line end behind a chunk.
     fn step_return(&mut self, has_return: bool, byte: u8) -> Result<(), Stop>
         requires { self.old.place ≡ Return has_return }
@@ -252,6 +268,10 @@ impl Framing {
         requires some { 0 < length piece.now }
         ensures { Steps self.old piece.now body.old.items result self.new body.new.items }
     {
+        let run = run_len(most_kept(self.place), self.kept.len(), piece);
+        if run > 0 {
+            return self.keep_run(run, piece);
+        }
         let byte = piece[0];
         match self.place {
             Place::Content(left) => self.take_content(left, piece, body),
@@ -311,6 +331,31 @@ fn front_len(left: u64, len: usize) -> usize
         left as usize
     } else {
         len
+    }
+}
+
+/// How many bytes fill what is kept at a place.
+fn most_kept(place: Place) -> usize
+    ensures { result ≡ most_kept_at place }
+{
+    match place {
+        Place::Head | Place::ReplyHead | Place::Trailing => HEAD_LIMIT,
+        Place::Line => LINE_LIMIT,
+        Place::Content(_) | Place::Data(_) | Place::Return(_) | Place::Whole => 0,
+    }
+}
+
+/// How many bytes in front of the piece stand before a line feed and do not fill what is kept.
+fn run_len(most: usize, kept: usize, piece: &[u8]) -> usize
+    ensures { IsRun most kept piece.now result }
+{
+    if most <= kept {
+        return 0;
+    }
+    let front = &piece[..piece.len().min(most - kept - 1)];
+    match memchr(b'\n', front) {
+        Some(end) => end,
+        None => front.len(),
     }
 }
 

@@ -1,6 +1,7 @@
-//! Counting the lines of a head byte by byte.
-ghost use Rattle.std.specs.Prelude.{◌≡◌, ◌<◌, ◌-◌, ◌^◌, ◌+◌, ◌*◌, length};
-ghost use Rattle.ojp_http.specs.Scanned.{no_lines, begun_step, scan_end, scan_step, is_full_by};
+//! Counting the lines of a head, by bytes and by runs of bytes.
+ghost use Rattle.std.specs.Prelude.{◌≡◌, ◌<◌, ◌-◌, ◌^◌, ◌+◌, ◌*◌, length, true};
+ghost use Rattle.ojp_http.specs.Bodies.{has_no_feed};
+ghost use Rattle.ojp_http.specs.Scanned.{no_lines, begun_step, begun_run, scan_end, scan_from, scan_step, is_full_by};
 
 /// The most bytes of a head or of a trailer.
 pub const HEAD_LIMIT: usize = 16_384;
@@ -22,6 +23,19 @@ impl Begun {
             Begun::Nothing if byte == b'\r' => Begun::Return,
             _ => Begun::Other,
         }
+    }
+
+    /// The line after a run of bytes without a line feed.
+    fn after_run(self, run: &[u8]) -> Begun
+        ensures { result ≡ begun_run self run.now }
+    {
+        if run.is_empty() {
+            return self;
+        }
+        if run.len() == 1 {
+            return self.after(run[0]);
+        }
+        Begun::Other
     }
 }
 
@@ -76,6 +90,18 @@ impl Scan {
         }
         Scan {
             begun: self.begun.after(byte),
+            counted: self.counted,
+            has_empty: self.has_empty,
+        }
+    }
+
+    /// After a run of bytes without a line feed.
+    pub fn after_run(self, run: &[u8]) -> Scan
+        requires { has_no_feed run.now ≡ true }
+        ensures { result ≡ scan_from self run.now }
+    {
+        Scan {
+            begun: self.begun.after_run(run),
             counted: self.counted,
             has_empty: self.has_empty,
         }

@@ -9,7 +9,7 @@ use Rattle.ojp_http.proofs.head.trailer_end.Goals as goal
 
 pub returns-then-newest-ne10 : goal.returns-then-newest-ne10
 returns-then-newest-ne10 c =
-    unended ReadsTrailer (λ t. t.0) 65 Chunk Chunk (λ t. tt {0}) trailers c.args.bytes.now c.requires.newest.0 c.args.newest c.args.scan c.requires.grown c.requires.scanned c.requires.newest.1 c.if-newest-ne10.true
+    unended ReadsTrailer (λ t. t.0) 65 Chunk Chunk (λ t. tt {0}) 0 trailers c.args.bytes.now c.requires.newest.0 c.args.newest c.args.scan c.requires.grown c.requires.scanned c.requires.newest.1 c.if-newest-ne10.true
     (sym c.is_full-is_full.ensures ∙ c.if-not-is_full.true)
 
 pub returns-in-Ok-Some : goal.returns-in-Ok-Some

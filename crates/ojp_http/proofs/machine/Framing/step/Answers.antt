@@ -3,6 +3,9 @@ use Rattle.ojp_http.specs.Machine.{Steps}
 use Rattle.ojp_http.proofs.Stepping.{one_step, first_byte}
 use Rattle.ojp_http.proofs.machine.Framing.step.Goals as goal
 
+pub returns-then-run-gt0 : goal.returns-then-run-gt0
+returns-then-run-gt0 c = c.keep_run.ensures c.args.body.now.items
+
 pub returns-in-Head : goal.returns-in-Head
 returns-in-Head c =
     subst (λ r. Steps c.args.self.now c.args.piece.now c.args.body.now.items r c.step_head.new.self c.args.body.now.items) (sym c.one.ensures)

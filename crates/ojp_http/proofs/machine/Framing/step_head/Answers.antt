@@ -1,4 +1,4 @@
-use Rattle.std.proofs.Common.{◌∙◌, Some}
+use Rattle.std.proofs.Common.{◌∙◌, Some, [], ◌∷◌}
 use Rattle.httparse.specs.Grammar.{ReadsRequest, RequestHead}
 use Rattle.ojp_http.specs.declared.refusal.Refusal.TheVariants as refusals
 use Rattle.ojp_http.specs.declared.machine.Place.TheVariants.{Head}
@@ -39,6 +39,6 @@ returns-in-Err c =
 pub returns-in-Ok-None : goal.returns-in-Ok-None
 returns-in-Ok-None c =
     let o = open_at c.args.self.now Head c.requires.place c.requires.ready in
-    head_more c.args.self.now _ c.args.byte c.requires.place (c.in-Ok.ensures.place ∙ c.requires.place) c.in-Ok.ensures.room c.in-Ok.ensures.kept o.1
+    head_more c.args.self.now _ (c.args.byte ∷ []) c.requires.place (c.in-Ok.ensures.place ∙ c.requires.place) c.in-Ok.ensures.room c.in-Ok.ensures.kept
     (ready_more ReadsRequest (λ (h : RequestHead). h.fields) 66 c.args.self.now.kept.items _ _ c.args.byte c.args.self.now.scan _ c.deref.ensures.value c.in-Ok.ensures.kept o.0 o.1 c.in-Ok.ensures.scan
     (rw c.in-Ok-None.field-0-is at c.in-Ok-None.ensures))
