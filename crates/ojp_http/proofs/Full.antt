@@ -7,39 +7,22 @@ use Rattle.ojp_http.specs.declared.scan.Scan.{Scan}
 use Rattle.ojp_http.specs.Scanned.{no_lines, scan_step, scan_from, is_full_by, end_by, begun_step}
 use Rattle.ojp_http.specs.Heads.{counted_lines, IsFullAt}
 use Rattle.ojp_http.proofs.Scans.{are_filled, counts}
-use Rattle.std.proofs.lemmas.Bool.Decides.{nat_tests}
-use Rattle.ojp_http.proofs.Tests.{or_cases, and_cases}
-
-pub le_of_test : (a b : ℕ) → nat_le a b ≡ true → a ≤ b
-le_of_test a b h = grind (arith, nat_tests)
-
-pub test_of_le : (a b : ℕ) → a ≤ b → nat_le a b ≡ true
-test_of_le a b h = grind (arith, nat_tests)
+use Rattle.std.proofs.lemmas.Bool.{and_from, and_parts, both_ways, le-leb, leb-true, or_cases, or_parts}
 
 not_not : (b : Bool) → not (not b) ≡ b
 not_not true = refl
 not_not false = refl
-
-or_true : (a : Bool) → (a || true) ≡ false → ⊥
-or_true true x = cc
-or_true false x = cc
-
-clash_left : {a : Bool} (b : Bool) → a ≡ true → (a || b) ≡ false → ⊥
-clash_left b e o = let x : (true || b) ≡ false = ap (λ v. v || b) (sym e) ∙ o in cc
-
-clash_right : (a : Bool) {b c : Bool} → b ≡ true → c ≡ true → (a || (b && c)) ≡ false → ⊥
-clash_right a {b} {c} e f o = let x : (a || (true && true)) ≡ false = (λ i. a || (sym e i && sym f i)) ∙ o in or_true a x
 
 -- full by the count is full
 pub full_by : (most : ℕ) (bytes : List ℕ) (s : Scan) → s ≡ scan_from no_lines bytes → is_full_by most (length bytes) s ≡ true → IsFullAt most bytes
 full_by most bytes s is full =
     let c = counts bytes in
     elim (or_cases (nat_le 16384 (length bytes)) (nat_le most s.counted && not s.has_empty) full) [
-      | inl long ↦ inl (le_of_test 16384 (length bytes) long)
+      | inl long ↦ inl (leb-true 16384 (length bytes) long)
       | inr lined ↦
-          let two = and_cases (nat_le most s.counted) (not s.has_empty) lined in
+          let two = and_parts (nat_le most s.counted) (not s.has_empty) lined in
           inr (
-            subst (λ (n : ℕ). most ≤ n) (ap (λ (v : Scan). v.counted) is ∙ c.1.counted) (le_of_test most s.counted two.0),
+            subst (λ (n : ℕ). most ≤ n) (ap (λ (v : Scan). v.counted) is ∙ c.1.counted) (leb-true most s.counted two.0),
             sym (not_not (are_filled (counted_lines bytes))) ∙ ap not (sym (ap (λ (v : Scan). v.has_empty) is ∙ c.1.has_empty)) ∙ two.1,
           )
     ]
@@ -49,11 +32,11 @@ pub not_full_by : (most : ℕ) (bytes : List ℕ) (s : Scan) → s ≡ scan_from
 not_full_by most bytes s is shut full =
     let c = counts bytes in
     elim full [
-      | inl long ↦ let t = test_of_le 16384 (length bytes) long in absurd (clash_left (nat_le most s.counted && not s.has_empty) t shut)
+      | inl long ↦ absurd (both_ways _ (or_parts (nat_le 16384 (length bytes)) (nat_le most s.counted && not s.has_empty) shut).0 (le-leb 16384 (length bytes) long))
       | inr lined ↦
-          let few = test_of_le most s.counted (subst (λ (n : ℕ). most ≤ n) (sym (ap (λ (v : Scan). v.counted) is ∙ c.1.counted)) lined.0) in
+          let few = le-leb most s.counted (subst (λ (n : ℕ). most ≤ n) (sym (ap (λ (v : Scan). v.counted) is ∙ c.1.counted)) lined.0) in
           let none : not s.has_empty ≡ true = ap not (ap (λ (v : Scan). v.has_empty) is ∙ c.1.has_empty) ∙ not_not (are_filled (counted_lines bytes)) ∙ lined.1 in
-          absurd (clash_right (nat_le 16384 (length bytes)) few none shut)
+          absurd (both_ways _ (or_parts (nat_le 16384 (length bytes)) (nat_le most s.counted && not s.has_empty) shut).1 (and_from (nat_le most s.counted) (not s.has_empty) few none))
     ]
 
 abbrev counted_of : Scan → ℕ

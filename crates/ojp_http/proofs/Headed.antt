@@ -11,18 +11,16 @@ use Rattle.ojp_http.specs.declared.refusal.Refusal.{Refusal}
 use Rattle.ojp_http.specs.Scanned.{no_lines, scan_from, is_full_by}
 use Rattle.ojp_http.specs.Heads.{IsFullAt, IsFull, IsWithin}
 use Rattle.ojp_http.specs.Outcomes.{HasGrown, Decides, Refuses, decided_by}
+use Rattle.std.proofs.lemmas.Bool.{le-leb, or_right}
 use Rattle.std.proofs.lemmas.List.{append_cancel_right}
 use Rattle.ojp_http.specs.declared.scan.Begun.TheVariants.{Nothing}
-use Rattle.ojp_http.proofs.Full.{full_by, not_full_by, test_of_le}
+use Rattle.ojp_http.proofs.Full.{full_by, not_full_by}
 use Rattle.ojp_http.proofs.Lines.{Heading, heading_has_empty, heading_ends_in, print_lines, return_of, print_end-is, body_scan}
 
-or-true : (b : Bool) → (b || true) ≡ true
-or-true true = refl
-or-true false = refl
-
-none_behind : (a b : List ℕ) → a ++ b ≡ [] → b ≡ []
-none_behind [] b e = e
-none_behind (x ∷ a) b e = absurd (cc)
+-- two lists of which nothing is made are empty
+pub both_empty : (a b : List ℕ) → a ++ b ≡ [] → (a ≡ []) × (b ≡ [])
+both_empty [] b e = (refl, e)
+both_empty (x ∷ a) b e = absurd (cc)
 
 -- a front of some bytes and one more is all of them, or a front of those before the last
 pub front_cases : (front rest kept : List ℕ) (b : ℕ) → front ++ rest ≡ kept ++ b ∷ []
@@ -31,7 +29,7 @@ front_cases [] rest kept b e = inr (kept, refl, e)
 front_cases (x ∷ []) [] [] b e = inl refl
 front_cases (x ∷ front) rest [] b e =
     let t : front ++ rest ≡ [] = cc in
-    inl (none_behind front rest t)
+    inl (both_empty front rest t).1
 front_cases (x ∷ front) rest (y ∷ kept) b e =
     let t : front ++ rest ≡ kept ++ b ∷ [] = cc in
     let h : x ≡ y = cc in
@@ -94,7 +92,7 @@ same_last (u ∷ a) (v ∷ b) x y e = let t : a ++ x ∷ [] ≡ b ++ y ∷ [] = 
 
 -- so many lines are full
 full_lines : (most len n : ℕ) → most ≤ n → is_full_by most len (record { begun = Nothing; counted = n; has_empty = false }) ≡ true
-full_lines most len n h = ap (λ v. nat_le 16384 len || (v && true)) (test_of_le most n h) ∙ or-true (nat_le 16384 len)
+full_lines most len n h = ap (λ v. nat_le 16384 len || (v && true)) (le-leb most n h) ∙ or_right (nat_le 16384 len) true refl
 
 module _ {H : Type 0} (Reads : List ℕ → H → List ℕ → Type 0) (fields : H → List Field) (most : ℕ) where
   -- no proper front of the bytes is full
@@ -265,3 +263,19 @@ module _ {H : Type 0} (Reads : List ℕ → H → List ℕ → Type 0) (fields :
     decides_rest frame extra grammar bytes s g is is_full full (Err StatusWrong) x = decides_malformed extra grammar bytes g (x.invalid (λ e. cc))
     decides_rest frame extra grammar bytes s g is is_full full (Err Token) x = decides_malformed extra grammar bytes g (x.invalid (λ e. cc))
     decides_rest frame extra grammar bytes s g is is_full full (Err Version) x = decides_malformed extra grammar bytes g (x.invalid (λ e. cc))
+
+    -- what is decided where a parser found no head, from its clauses
+    pub decides_none : {P F : Type 0} (frame : H → F) (extra : ℕ) → Grammar Reads fields extra → most ≤ 65 + extra → (bytes : List ℕ) (s : Scan) → HasGrown Reads fields most bytes
+        → s ≡ scan_from no_lines bytes → (is_full : Bool) → is_full ≡ is_full_by most (length bytes) s → (parsed : Result (Status P) Error)
+        → OnPartial parsed ((h : H) (rest : List ℕ) → ¬ (Reads bytes h rest))
+        → OnInvalid parsed ((more : List ℕ) (h : H) (rest : List ℕ) → ¬ (Reads (bytes ++ more) h rest))
+        → OnTooManyHeaders parsed ((front : List ℕ) × (rest : List ℕ) × (bytes ≡ front ++ rest) × (h : H) × Reads (front ++ print_end lf) h [] × (64 < length (fields h)))
+        → OnTooManyHeaders parsed ((more : List ℕ) (h : H) (rest : List ℕ) → Reads (bytes ++ more) h rest → 64 < length (fields h))
+        → (r : Result (Option P) Refusal) → decided_by parsed is_full bad large ≡ r → DecidesRest frame bytes r
+    decides_none {P = P} frame extra grammar le bytes s g is is_full full parsed partial invalid exceeds overflows r decided =
+        subst (DecidesRest {P = P} frame bytes) decided
+        (decides_rest frame extra grammar bytes s g is is_full (sym full) parsed (record {
+          partial = partial;
+          invalid = invalid;
+          crowded = λ e. let x = exceeds e in too_many extra grammar le bytes g x.0 x.1 x.2 x.3 x.4 x.5 (overflows e);
+        }))

@@ -9,7 +9,6 @@ pub mod ReplyFacts
 pub mod Requesting
 pub mod MachineFacts
 pub mod Scans
-pub mod Tests
 pub mod Stepping
 pub mod Runs
 pub mod Tallies

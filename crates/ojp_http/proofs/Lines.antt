@@ -10,7 +10,7 @@ use Rattle.ojp_http.specs.Scanned.{no_lines, scan_step, scan_from, begun_step, e
 use Rattle.ojp_http.specs.Heads.{is_empty_line}
 use Rattle.ojp_http.specs.Bodies.{has_no_feed}
 use Rattle.ojp_http.proofs.Scans.{begun_of, begun_of-push, scan_from-append}
-use Rattle.ojp_http.proofs.Tests.{and_cases, not_true}
+use Rattle.std.proofs.lemmas.Bool.{and_parts, not-true}
 
 -- the carriage return of a line end, which stands in the line
 abbrev pub return_of : LineEnd → List ℕ
@@ -55,10 +55,10 @@ line_scan : (line begun : List ℕ) (n : ℕ) (e : Bool) → has_no_feed line �
     → scan_from (record { begun = begun_of begun; counted = n; has_empty = e }) line ≡ record { begun = begun_of (begun ++ line); counted = n; has_empty = e }
 line_scan [] begun n e h = ap (λ (l : List ℕ). record { begun = begun_of l; counted = n; has_empty = e }) (sym (append-nil begun))
 line_scan (b ∷ line) begun n e h =
-    let two = and_cases (not (b == 10)) (has_no_feed line) h in
+    let two = and_parts (not (b == 10)) (has_no_feed line) h in
     let start : Scan = record { begun = begun_of begun; counted = n; has_empty = e } in
     let plain : Scan = record { begun = begun_step (begun_of begun) b; counted = n; has_empty = e } in
-    let stepped : scan_step start b ≡ plain = ap (λ (t : Bool). if t then scan_end start else plain) (not_true (b == 10) two.0) in
+    let stepped : scan_step start b ≡ plain = ap (λ (t : Bool). if t then scan_end start else plain) (not-true (b == 10) two.0) in
     let more : plain ≡ record { begun = begun_of (begun ++ b ∷ []); counted = n; has_empty = e } =
     ap (λ (v : Begun). record { begun = v; counted = n; has_empty = e }) (begun_of-push begun b) in
     ap (λ (s : Scan). scan_from s line) (stepped ∙ more)

@@ -17,14 +17,14 @@ use Rattle.ojp_http.specs.Bodies.{EndsHere, Takes, EndsChunk, Chunks, Trailer, S
 use Rattle.ojp_http.specs.Machine.{content_left, chunk_left, chunk_start, ReadsAt, IsOpenAt, work_at, room_at, SpendsBy, FrameSpends, SizedSpends, IsCountedBy, IsBounded, FollowsFrame, Begins, IsNewRequest, IsNewReply}
 use Rattle.ojp_http.specs.Scanned.{no_lines, scan_from}
 use Rattle.ojp_http.specs.declared.scan.Scan.{Scan}
-use Rattle.ojp_http.proofs.Headed.{Grammar, no_end}
+use Rattle.ojp_http.proofs.Headed.{Grammar, both_empty, no_end}
 use Rattle.ojp_http.proofs.Grammars.{trailers, requests, responses}
 use Rattle.ojp_http.proofs.Lines.{heading_ends_in}
 use Rattle.std.specs.Prelude.{codes}
 use Rattle.std.specs.Str.{bytes_eq}
 use Rattle.httparse.specs.Spans.{name_and_value}
 use Rattle.ojp_http.specs.Fields.{frame_by, ask_frame, is_conflict, is_same, is_host_wrong, count_named, value_named, frame_of}
-use Rattle.ojp_http.proofs.Full.{le_of_test}
+use Rattle.std.proofs.lemmas.Bool.{leb-true}
 
 pub after-nil : (v : Verdict) → after [] v ≡ v
 after-nil (whole body rest) = refl
@@ -33,19 +33,15 @@ after-nil (cut body) = refl
 
 -- ---- before the first byte
 
-front_nil : (a b : List ℕ) → [] ≡ a ++ b → a ≡ []
-front_nil [] b e = refl
-front_nil (x ∷ a) b e = absurd (cc)
-
 pub no_head_nil : {H : Type 0} (Reads : List ℕ → H → List ℕ → Type 0) (fields : H → List Field) (most extra : ℕ) → Grammar Reads fields extra → HasNoHead Reads fields most []
 no_head_nil Reads fields most extra grammar h rest x =
-    let none : x.front ≡ [] = front_nil x.front rest x.is in
+    let none : x.front ≡ [] = (both_empty x.front rest (sym x.is)).0 in
     let fed = heading_ends_in (length (fields h) + extra) x.front (grammar.heading x.front h x.reads) in
     no_end fed.0 10 (sym none ∙ fed.1)
 
 pub not_full_nil : (most : ℕ) → 0 < most → ¬ (IsFull most [])
 not_full_nil most pos full =
-    let now : IsFullAt most [] = subst (IsFullAt most) (front_nil full.front full.rest full.is) full.full in
+    let now : IsFullAt most [] = subst (IsFullAt most) (both_empty full.front full.rest (sym full.is)).0 full.full in
     elim now [ inl long ↦ omega (arith, long) | inr lined ↦ omega (arith, lined.0, pos) ]
 
 -- ---- places
@@ -191,7 +187,7 @@ choose P true x y p q = p
 choose P false x y p q = q
 
 counted_within : (n most : ℕ) (t : Bool) → nat_le n most ≡ t → IsCountedBy most (if t then Counted n else frames.Refused refusals.TooLong)
-counted_within n most true e = le_of_test n most e
+counted_within n most true e = leb-true n most e
 counted_within n most false e = tt
 
 frame_bounded : (most minor lengths codings : ℕ) (length_text coding : List ℕ) → IsCountedBy most (frame_by most minor lengths codings length_text coding)

@@ -21,6 +21,7 @@ use Rattle.ojp_http.proofs.WholeMessages.{replies_only, beginning_law}
 use Rattle.ojp_http.proofs.MachineFacts.{after-nil}
 use Rattle.ojp_http.proofs.Stepping.{after-append}
 use Rattle.ojp_http.proofs.Feeding.{whole_place}
+use Rattle.ojp_http.proofs.Headed.{both_empty}
 use Rattle.ojp_http.proofs.Opened.{open_cut, open_goes_on}
 use Rattle.ojp_http.proofs.Requesting.{take_length}
 
@@ -48,14 +49,10 @@ open_new f n = (n.ready, not_whole f.place n.unfinished)
 pub begins_none : (bytes : List ℕ) (e : Refusal) → ((rest : List ℕ) → Replies (bytes ++ rest) (refused e)) → BeginsNoReply bytes
 begins_none bytes e decided more body x = let same : refused e ≡ whole body [] = replies_only (bytes ++ more) body [] (refused e) x (decided more) in cc
 
-none_before : (a b : List ℕ) → a ++ b ≡ [] → a ≡ []
-none_before [] b e = refl
-none_before (x ∷ a) b e = absurd (cc)
-
 -- no reply begins with a whole one and more bytes
 begins_longer : (bytes got piece : List ℕ) → HttpReply bytes got → piece ≢ [] → BeginsNoReply (bytes ++ piece)
 begins_longer bytes got piece x some more body y =
-    some (none_before piece more (beginning_law bytes (piece ++ more) got body x (subst (λ (l : List ℕ). HttpReply l body) (append_assoc bytes piece more) y)))
+    some (both_empty piece more (beginning_law bytes (piece ++ more) got body x (subst (λ (l : List ℕ). HttpReply l body) (append_assoc bytes piece more) y))).0
 
 not_nil : (piece : List ℕ) → (length piece == 0) ≡ false → piece ≢ []
 not_nil piece some e = let x : true ≡ false = ap (λ (l : List ℕ). length l == 0) (sym e) ∙ some in cc

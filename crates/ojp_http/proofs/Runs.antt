@@ -1,7 +1,7 @@
 -- Runs of bytes without a line feed, kept at once.
 use Rattle.std.proofs.Common.{◌≡◌, ℕ, ◌+◌, ◌≤◌, ◌<◌, Bool, true, false, not, ◌&&◌, ◌||◌, List, [], ◌∷◌, ◌++◌, Option, Some, None, Result, Ok, length, take, get_or, refl, sym, ap, ◌∙◌, arith, append_assoc, append-nil, subst, suc, zero, inl, inr, nat_le, if◌then◌else◌, length-append}
 use Rattle.std.specs.Prelude.{◌==◌}
-use Rattle.std.proofs.lemmas.Bool.{or_right}
+use Rattle.std.proofs.lemmas.Bool.{and_parts, cases_Bool, false_from_ne_true, leb-true, not-true, or_cases, or_right}
 use Rattle.std.proofs.lemmas.Bool.Decides.{nat_tests}
 use Rattle.std.proofs.lemmas.List.{length-take-le, get_or-take}
 use Rattle.memchr.specs.Find.{IsFirstByte, is_byte}
@@ -17,22 +17,18 @@ use Rattle.ojp_http.specs.Bodies.{ReadsTrailer, has_no_feed}
 use Rattle.ojp_http.specs.Heads.{HasNoHead}
 use Rattle.ojp_http.specs.Machine.{IsCounted, IsOpen, IsOpenAt, IsRun, Moves, Steps, most_kept_at}
 use Rattle.ojp_http.specs.Scanned.{no_lines, begun_step, begun_run, scan_end, scan_step, scan_from, is_full_by}
-use Rattle.ojp_http.proofs.Full.{full_by, le_of_test}
+use Rattle.ojp_http.proofs.Full.{full_by}
 use Rattle.ojp_http.proofs.Grammars.{no_feed_append, requests, responses, trailers}
 use Rattle.ojp_http.proofs.Headed.{Grammar, unended}
 use Rattle.ojp_http.proofs.Stepping.{counted_more, grown, head_more, line_more, reply_more, scanned, trailer_more}
-use Rattle.ojp_http.proofs.Tests.{and_cases, bool_cases, not_true, or_cases}
 
 -- ---- the first line feed
-
-feed_free : (b : ℕ) → ((b == 10) ≡ true → ⊥) → (b == 10) ≡ false
-feed_free b h = elim (bool_cases (b == 10)) [ inl e ↦ absurd (h e) | inr e ↦ e ]
 
 -- no byte is a line feed
 plain_all : (front : List ℕ) → ((k : ℕ) → k < length front → (get_or front k 0 == 10) ≡ true → ⊥) → has_no_feed front ≡ true
 plain_all [] h = refl
 plain_all (b ∷ front) h =
-    let e = feed_free b (h 0 (omega arith)) in
+    let e = false_from_ne_true (b == 10) (h 0 (omega arith)) in
     let r = plain_all front (λ k low. h (suc k) (omega arith)) in
     (λ i. not (e i) && r i)
 
@@ -80,10 +76,10 @@ begun_more begun b c (d ∷ run) = refl
 -- the line that has begun grows
 pub run_scan : (run : List ℕ) (s : Scan) → has_no_feed run ≡ true → scan_from s run ≡ record { begun = begun_run s.begun run; counted = s.counted; has_empty = s.has_empty }
 run_scan [] s h = refl
-run_scan (b ∷ []) s h = plain_step s b (not_true (b == 10) (and_cases (not (b == 10)) true h).0)
+run_scan (b ∷ []) s h = plain_step s b (not-true (b == 10) (and_parts (not (b == 10)) true h).0)
 run_scan (b ∷ c ∷ run) s h =
-    let two = and_cases (not (b == 10)) (has_no_feed (c ∷ run)) h in
-    ap (λ (t : Scan). scan_from t (c ∷ run)) (plain_step s b (not_true (b == 10) two.0))
+    let two = and_parts (not (b == 10)) (has_no_feed (c ∷ run)) h in
+    ap (λ (t : Scan). scan_from t (c ∷ run)) (plain_step s b (not-true (b == 10) two.0))
     ∙ run_scan (c ∷ run) (record { begun = begun_step s.begun b; counted = s.counted; has_empty = s.has_empty }) two.1
     ∙ ap (λ (t : Begun). record { begun = t; counted = s.counted; has_empty = s.has_empty }) (begun_more s.begun b c run)
 
@@ -107,11 +103,11 @@ begun_many begun (b ∷ c ∷ run) none one = refl
 shut_more : (most : ℕ) (kept new : List ℕ) (s t : Scan) → IsCounted most kept s → t.counted ≡ s.counted → t.has_empty ≡ s.has_empty → length new < 16384
     → is_full_by most (length new) t ≡ false
 shut_more most kept new s t counted c h lt =
-    elim (bool_cases (is_full_by most (length new) t)) [
+    elim (cases_Bool (is_full_by most (length new) t)) [
       | inr e ↦ e
       | inl e ↦
           elim (or_cases (nat_le 16384 (length new)) (nat_le most t.counted && not t.has_empty) e) [
-            | inl long ↦ absurd (omega (arith, le_of_test 16384 (length new) long, lt))
+            | inl long ↦ absurd (omega (arith, leb-true 16384 (length new) long, lt))
             | inr lined ↦
                 let same : is_full_by most (length kept) s ≡ true =
                 (λ i. nat_le 16384 (length kept) || (nat_le most (sym c i) && not (sym h i))) ∙ ap (λ (v : Bool). nat_le 16384 (length kept) || v) lined ∙ or_right (nat_le 16384 (length kept)) true refl in
@@ -140,8 +136,8 @@ module _ {H : Type 0} (R : List ℕ → H → List ℕ → Type 0) (fields : H �
   run_open [] kept s h lt none counted =
       subst (λ (l : List ℕ). HasNoHead R fields most l × IsCounted most l s) (sym (append-nil kept)) (none, counted)
   run_open (b ∷ run) kept s h lt none counted =
-      let two = and_cases (not (b == 10)) (has_no_feed run) h in
-      let one = byte_open kept b s (not_true (b == 10) two.0) (omega arith) none counted in
+      let two = and_parts (not (b == 10)) (has_no_feed run) h in
+      let one = byte_open kept b s (not-true (b == 10) two.0) (omega arith) none counted in
       let all = run_open run (kept ++ b ∷ []) (scan_step s b) two.1 (omega (arith, lt, length-append kept (b ∷ []))) one.0 one.1 in
       subst (λ (l : List ℕ). HasNoHead R fields most l × IsCounted most l (scan_from (scan_step s b) run)) (append_assoc kept (b ∷ []) run) all
 

@@ -9,7 +9,8 @@ use Rattle.ojp_http.specs.declared.scan.Begun.TheVariants.{Nothing, Return, Othe
 use Rattle.ojp_http.specs.declared.scan.Scan.{Scan}
 use Rattle.ojp_http.specs.Scanned.{no_lines, begun_step, end_by, scan_end, scan_step, scan_from}
 use Rattle.ojp_http.specs.Heads.{lines_after, is_empty_line, without_front}
-use Rattle.ojp_http.proofs.Tests.{and_false, bool_cases}
+use Rattle.std.proofs.lemmas.Bool.{and_right, cases_Bool}
+use Rattle.std.proofs.Math.Bool.{and-true}
 
 pub scan_from-append : (s : Scan) (a b : List ℕ) → scan_from s (a ++ b) ≡ scan_from (scan_from s a) b
 scan_from-append s [] b = refl
@@ -37,10 +38,6 @@ without_front-push (k ∷ done) line =
       | true ↦ without_front-push done line
       | false ↦ refl
     ]
-
-and-true : (b : Bool) → (b && true) ≡ b
-and-true true = refl
-and-true false = refl
 
 are_filled-push : (lines : List (List ℕ)) (line : List ℕ) → are_filled (lines ++ line ∷ []) ≡ (are_filled lines && (not (is_empty_line line) && true))
 are_filled-push lines line = list_all-append (λ l. not (is_empty_line l)) lines (line ∷ [])
@@ -74,7 +71,7 @@ ends_empty b which (k ∷ counted) line empty =
     let first : Scan = record { begun = Nothing; counted = 0; has_empty = not (are_filled (k ∷ counted)) } in
     let chosen : (if suc (length counted) == 0 then first else more) ≡ more = ap (λ t. if t then first else more) (eqb-suc-zero (length counted)) in
     let last : more ≡ count_of (pushed (k ∷ counted) line) =
-    (λ i. record { begun = Nothing; counted = length (k ∷ counted) + 1; has_empty = not ((sym (and_false (are_filled (k ∷ counted)))) i) })
+    (λ i. record { begun = Nothing; counted = length (k ∷ counted) + 1; has_empty = not ((sym (and_right (are_filled (k ∷ counted)) false refl)) i) })
     ∙ count_of-push k counted line true empty in
     by_which b which P (chosen ∙ last) (chosen ∙ last)
 
@@ -92,7 +89,7 @@ ends_filled (k ∷ counted) line filled =
 pub ends : (counted : List (List ℕ)) (line : List ℕ) → end_by (begun_of line) (length counted) (not (are_filled counted)) ≡ count_of (pushed counted line)
 ends counted [] = ends_empty Nothing (inl refl) counted [] refl
 ends counted (b ∷ []) =
-    elim (bool_cases (b == 13)) [
+    elim (cases_Bool (b == 13)) [
       | inl e ↦ let r : begun_of (b ∷ []) ≡ Return = ap (λ t. if t then Return else Other) e in ends_empty (begun_of (b ∷ [])) (inr r) counted (b ∷ []) e
       | inr e ↦
           let r : begun_of (b ∷ []) ≡ Other = ap (λ t. if t then Return else Other) e in

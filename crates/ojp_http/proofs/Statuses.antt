@@ -3,7 +3,7 @@ use Rattle.std.proofs.Common.{◌≡◌, ℕ, ◌≤◌, inl, inr, true, IsTrue,
 use Rattle.std.proofs.lemmas.Bool.Decides.{nat_tests}
 use Rattle.http.specs.StatusCode.{reason_phrase}
 use Rattle.ojp_http.specs.Responses.{is_answer_status}
-use Rattle.ojp_http.proofs.Tests.{or_cases}
+use Rattle.std.proofs.lemmas.Bool.{or_cases}
 
 status_is : (a status : ℕ) → (a == status) ≡ true → a ≡ status
 status_is a status e = grind (arith, nat_tests)

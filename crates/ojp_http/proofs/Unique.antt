@@ -19,7 +19,7 @@ use Rattle.ojp_http.proofs.Grammars.{trailers, no_feed, no_feed_append}
 use Rattle.ojp_http.proofs.ChunkFacts.{line_feeds}
 use Rattle.ojp_http.proofs.MachineFacts.{after-nil}
 use Rattle.ojp_http.specs.Laws.{HasBadTrailer, AreTwo}
-use Rattle.ojp_http.proofs.Tests.{and_false}
+use Rattle.std.proofs.lemmas.Bool.{and_right}
 
 -- two verdicts of the same bytes: one, or the two that a malformed trailer allows
 abbrev pub Differ : (List ℕ → Verdict → Type 0) → List ℕ → Verdict → Verdict → Type 0
@@ -114,7 +114,7 @@ line_plain l x =
 feeds : (front more : List ℕ) → has_no_feed ((front ++ 10 ∷ []) ++ more) ≡ true → ⊥
 feeds front more h =
     let x : has_no_feed ((front ++ 10 ∷ []) ++ more) ≡ false =
-    list_all-append (λ n. not (n == 10)) (front ++ 10 ∷ []) more ∙ (λ i. (list_all-append (λ n. not (n == 10)) front (10 ∷ []) ∙ and_false (has_no_feed front)) i && has_no_feed more) in
+    list_all-append (λ n. not (n == 10)) (front ++ 10 ∷ []) more ∙ (λ i. (list_all-append (λ n. not (n == 10)) front (10 ∷ []) ∙ and_right (has_no_feed front) false refl) i && has_no_feed more) in
     cc
 
 -- a line that is no chunk line does not begin with one

@@ -18,7 +18,7 @@ use Rattle.ojp_http.specs.Replying.{BeginsNoReply}
 use Rattle.ojp_http.specs.Responses.{head_text, allow_line, type_line, no_memory_response}
 use Rattle.ojp_http.specs.Serving.{response}
 use Rattle.ojp_http.specs.Laws.{AnswerIsReply, OthersAreRefused}
-use Rattle.ojp_http.proofs.Full.{test_of_le}
+use Rattle.std.proofs.lemmas.Bool.{le-leb}
 use Rattle.ojp_http.proofs.Statuses.{by_status}
 use Rattle.ojp_http.proofs.ReplyFacts.{begins_none}
 use Rattle.ojp_http.proofs.Written.{IsNumberText, number_text, IsPlain, head_of, written_head}
@@ -76,7 +76,7 @@ answer_is_plain = record {
 -- by one number, and no coding
 counted : (n : ℕ) (text : List ℕ) → n < 2 ^ 64 → is_number text ≡ true → digits_value 10 text ≡ n → frame_by (2 ^ 64 - 1) 1 1 0 text [] ≡ Counted n
 counted n text fits number value =
-    let within : nat_le (digits_value 10 text) (2 ^ 64 - 1) ≡ true = test_of_le (digits_value 10 text) (2 ^ 64 - 1) (omega (arith, value)) in
+    let within : nat_le (digits_value 10 text) (2 ^ 64 - 1) ≡ true = le-leb (digits_value 10 text) (2 ^ 64 - 1) (omega (arith, value)) in
     ap (λ (b : Bool). if (not b || false) then Refused refusals.Conflict else (if nat_le (digits_value 10 text) (2 ^ 64 - 1) then Counted (digits_value 10 text) else Refused refusals.TooLong)) number
     ∙ ap (λ (b : Bool). if b then Counted (digits_value 10 text) else Refused refusals.TooLong) within
     ∙ ap Counted value

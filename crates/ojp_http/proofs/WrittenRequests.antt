@@ -20,7 +20,7 @@ use Rattle.ojp_http.specs.Few.{feeds_in}
 use Rattle.ojp_http.specs.Asking.{HttpAsk}
 use Rattle.ojp_http.specs.Responses.{request_bytes}
 use Rattle.ojp_http.specs.Laws.{BodyIsOnly, RequestIsAsk, IsHostText, AreAllowed, AreTwo, one, head_or_large, head_or_cut, chunk_or_cut}
-use Rattle.ojp_http.proofs.Full.{test_of_le}
+use Rattle.std.proofs.lemmas.Bool.{le-leb}
 use Rattle.ojp_http.proofs.FewFacts.{feeds_in-append, few_are_within}
 use Rattle.ojp_http.proofs.Grammars.{no_feed}
 use Rattle.ojp_http.proofs.WholeMessages.{outcome_law}
@@ -144,7 +144,7 @@ written_head host n size h x body =
 
 counted : (n : ℕ) (text : List ℕ) → n ≤ 1048576 → is_number text ≡ true → digits_value 10 text ≡ n → frame_by 1048576 1 1 0 text [] ≡ Counted n
 counted n text fits number value =
-    let within : nat_le (digits_value 10 text) 1048576 ≡ true = test_of_le (digits_value 10 text) 1048576 (omega (arith, value, fits)) in
+    let within : nat_le (digits_value 10 text) 1048576 ≡ true = le-leb (digits_value 10 text) 1048576 (omega (arith, value, fits)) in
     ap (λ (b : Bool). if (not b || false) then Refused decided.Conflict else (if nat_le (digits_value 10 text) 1048576 then Counted (digits_value 10 text) else Refused decided.TooLong)) number
     ∙ ap (λ (b : Bool). if b then Counted (digits_value 10 text) else Refused decided.TooLong) within
     ∙ ap Counted value

@@ -1,16 +1,16 @@
-use Rattle.std.proofs.Common.{◌≡◌, Ok, Some, None, Err, sym, ◌∙◌, arith, subst}
+use Rattle.std.proofs.Common.{◌≡◌, Ok, Some, None, Err, sym, ◌∙◌, arith}
 use Rattle.httparse.specs.Grammar.{ReadsResponse, ResponseHead}
 use Rattle.ojp_http.specs.declared.refusal.Refusal.TheVariants.{Head, TooLargeHead}
 use Rattle.ojp_http.specs.Fields.{reply_frame, reply_by}
 use Rattle.ojp_http.specs.Outcomes.{decided_by}
-use Rattle.ojp_http.proofs.Tests.{not_true}
-use Rattle.ojp_http.proofs.Headed.{unparsed, too_many, decides_found, decides_rest, found_by, DecidesRest}
+use Rattle.std.proofs.lemmas.Bool.{not-true}
+use Rattle.ojp_http.proofs.Headed.{unparsed, decides_found, decides_none, found_by}
 use Rattle.ojp_http.proofs.Grammars.{responses, few_fields}
 use Rattle.ojp_http.proofs.head.response_frame.Goals as goal
 
 pub returns-then-not-scan : goal.returns-then-not-scan
 returns-then-not-scan c =
-    unparsed ReadsResponse (λ (h : ResponseHead). h.fields) 66 Head TooLargeHead reply_frame responses c.args.bytes.now c.args.scan c.requires.grown c.requires.scanned (not_true c.args.scan.has_empty c.if-not-scan.true)
+    unparsed ReadsResponse (λ (h : ResponseHead). h.fields) 66 Head TooLargeHead reply_frame responses c.args.bytes.now c.args.scan c.requires.grown c.requires.scanned (not-true c.args.scan.has_empty c.if-not-scan.true)
     (sym c.is_full-is_full.ensures ∙ c.if-not-is_full.true)
 
 pub returns-in-Ok-Some : goal.returns-in-Ok-Some
@@ -27,26 +27,12 @@ returns-in-Ok-Some c =
 
 pub returns-in-Ok-None : goal.returns-in-Ok-None
 returns-in-Ok-None c =
-    let is : decided_by c.parse_response-parsed.result c.is_full-is_full.result Head TooLargeHead ≡ Ok None = cc in
-    subst (DecidesRest ReadsResponse (λ (h : ResponseHead). h.fields) 66 Head TooLargeHead reply_frame c.args.bytes.now) is
-    (decides_rest ReadsResponse (λ (h : ResponseHead). h.fields) 66 Head TooLargeHead reply_frame 1 responses c.args.bytes.now c.args.scan c.requires.grown c.requires.scanned
-    c.is_full-is_full.result (sym c.is_full-is_full.ensures) c.parse_response-parsed.result (record {
-      partial = c.parse_response-parsed.ensures.partial;
-      invalid = c.parse_response-parsed.ensures.invalid;
-      crowded = λ e.
-          let x = c.parse_response-parsed.ensures.too_many e in
-          too_many ReadsResponse (λ (h : ResponseHead). h.fields) 66 Head TooLargeHead 1 responses (omega arith) c.args.bytes.now c.requires.grown x.0 x.1 x.2 x.3 x.4 x.5 (rw e at c.parse_response-parsed.ensures.no_room);
-    }))
+    decides_none ReadsResponse (λ (h : ResponseHead). h.fields) 66 Head TooLargeHead reply_frame 1 responses (omega arith) c.args.bytes.now c.args.scan c.requires.grown c.requires.scanned c.is_full-is_full.result c.is_full-is_full.ensures
+    c.parse_response-parsed.result c.parse_response-parsed.ensures.partial c.parse_response-parsed.ensures.invalid c.parse_response-parsed.ensures.too_many (λ e. rw e at c.parse_response-parsed.ensures.no_room)
+    (Ok None) (cc)
 
 pub returns-in-Err : goal.returns-in-Err
 returns-in-Err c =
-    let is : decided_by c.parse_response-parsed.result c.is_full-is_full.result Head TooLargeHead ≡ Err c.in-Err.refusal = cc in
-    subst (DecidesRest ReadsResponse (λ (h : ResponseHead). h.fields) 66 Head TooLargeHead reply_frame c.args.bytes.now) is
-    (decides_rest ReadsResponse (λ (h : ResponseHead). h.fields) 66 Head TooLargeHead reply_frame 1 responses c.args.bytes.now c.args.scan c.requires.grown c.requires.scanned
-    c.is_full-is_full.result (sym c.is_full-is_full.ensures) c.parse_response-parsed.result (record {
-      partial = c.parse_response-parsed.ensures.partial;
-      invalid = c.parse_response-parsed.ensures.invalid;
-      crowded = λ e.
-          let x = c.parse_response-parsed.ensures.too_many e in
-          too_many ReadsResponse (λ (h : ResponseHead). h.fields) 66 Head TooLargeHead 1 responses (omega arith) c.args.bytes.now c.requires.grown x.0 x.1 x.2 x.3 x.4 x.5 (rw e at c.parse_response-parsed.ensures.no_room);
-    }))
+    decides_none ReadsResponse (λ (h : ResponseHead). h.fields) 66 Head TooLargeHead reply_frame 1 responses (omega arith) c.args.bytes.now c.args.scan c.requires.grown c.requires.scanned c.is_full-is_full.result c.is_full-is_full.ensures
+    c.parse_response-parsed.result c.parse_response-parsed.ensures.partial c.parse_response-parsed.ensures.invalid c.parse_response-parsed.ensures.too_many (λ e. rw e at c.parse_response-parsed.ensures.no_room)
+    (Err c.in-Err.refusal) (cc)
