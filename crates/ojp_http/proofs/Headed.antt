@@ -1,21 +1,21 @@
 -- Heads at their newest byte, the same for requests, replies and trailers.
 use Rattle.std.proofs.Common.{◌≡◌, ℕ, ◌+◌, ◌≤◌, ◌<◌, ◌⊎◌, Bool, true, false, List, [], ◌∷◌, ◌++◌, Option, Some, None, Result, Ok, Err, length, refl, sym, ap, ◌∙◌, arith, append_assoc, append-nil, subst, inl, inr, length-append, nat_le, ◌||◌, ◌&&◌}
 use Rattle.httparse.specs.Grammar.{Field, print_blank, print_end, lf}
-use Rattle.ojp_http.specs.declared.scan.Scan.{Scan}
+use Rattle.ojp_http.specs.declared.count.LineCount.{LineCount}
 use Rattle.httparse.specs.declared.Error.{Error}
 use Rattle.httparse.specs.declared.Error.TheVariants.{HeaderName, HeaderValue, NewLine, Status as StatusWrong, Token, TooManyHeaders, Version}
 use Rattle.httparse.specs.declared.Status.{Status}
 use Rattle.httparse.specs.declared.Status.TheVariants.{Complete, Partial}
 use Rattle.httparse.specs.Outcome.{OnPartial, OnInvalid, OnTooManyHeaders}
 use Rattle.ojp_http.specs.declared.refusal.Refusal.{Refusal}
-use Rattle.ojp_http.specs.Scanned.{no_lines, scan_from, is_full_by}
+use Rattle.ojp_http.specs.LineCounts.{no_lines, count_from, is_full_by}
 use Rattle.ojp_http.specs.Heads.{IsFullAt, IsFull, IsWithin}
 use Rattle.ojp_http.specs.Outcomes.{HasGrown, Decides, Refuses, decided_by}
 use Rattle.std.proofs.lemmas.Bool.{le-leb, or_right}
 use Rattle.std.proofs.lemmas.List.{append_cancel_right}
-use Rattle.ojp_http.specs.declared.scan.Begun.TheVariants.{Nothing}
+use Rattle.ojp_http.specs.declared.count.Begun.TheVariants.{Nothing}
 use Rattle.ojp_http.proofs.Full.{full_by, not_full_by}
-use Rattle.ojp_http.proofs.Lines.{Heading, heading_has_empty, heading_ends_in, print_lines, return_of, print_end-is, body_scan}
+use Rattle.ojp_http.proofs.Lines.{Heading, heading_has_empty, heading_ends_in, print_lines, return_of, print_end-is, body_count}
 
 -- two lists of which nothing is made are empty
 pub both_empty : (a b : List ℕ) → a ++ b ≡ [] → (a ≡ []) × (b ≡ [])
@@ -123,7 +123,7 @@ module _ {H : Type 0} (Reads : List ℕ → H → List ℕ → Type 0) (fields :
         front = text;
         rest = return_of h.last ++ rest;
         is = is ∙ ap (λ (l : List ℕ). l ++ rest) short ∙ append_assoc text (return_of h.last) rest;
-        full = full_by most text (record { begun = Nothing; counted = length h.lines; has_empty = false }) (sym (body_scan h.blanks h.lines h.filled)) (full_lines most (length text) (length h.lines) h.enough);
+        full = full_by most text (record { begun = Nothing; counted = length h.lines; has_empty = false }) (sym (body_count h.blanks h.lines h.filled)) (full_lines most (length text) (length h.lines) h.enough);
       }
 
   module _ (bad large : Refusal) where
@@ -190,19 +190,19 @@ module _ {H : Type 0} (Reads : List ℕ → H → List ℕ → Type 0) (fields :
     )
 
     -- a head without an empty line is not all there
-    pub unparsed : {F : Type 0} (frame : H → F) → Grammar Reads fields 1 → (bytes : List ℕ) (s : Scan) → HasGrown Reads fields most bytes
-        → s ≡ scan_from no_lines bytes → s.has_empty ≡ false → is_full_by most (length bytes) s ≡ false → Decides Reads fields most bad large frame bytes (Ok None)
+    pub unparsed : {F : Type 0} (frame : H → F) → Grammar Reads fields 1 → (bytes : List ℕ) (s : LineCount) → HasGrown Reads fields most bytes
+        → s ≡ count_from no_lines bytes → s.has_empty ≡ false → is_full_by most (length bytes) s ≡ false → Decides Reads fields most bad large frame bytes (Ok None)
     unparsed frame grammar bytes s g is none shut =
         decides_more frame bytes g
         (λ h reads.
         let ended = heading_has_empty (length (fields h) + 1) bytes (omega arith) (grammar.heading bytes h reads) in
-        let e : s.has_empty ≡ true = ap (λ (v : Scan). v.has_empty) is ∙ ended in
+        let e : s.has_empty ≡ true = ap (λ (v : LineCount). v.has_empty) is ∙ ended in
         absurd (cc))
         (not_full_by most bytes s is shut)
 
     -- a head or a trailer that does not end in a line feed is not all there
-    pub unended : {F : Type 0} (frame : H → F) (extra : ℕ) → Grammar Reads fields extra → (bytes kept : List ℕ) (newest : ℕ) (s : Scan) → HasGrown Reads fields most bytes
-        → s ≡ scan_from no_lines bytes → bytes ≡ kept ++ newest ∷ [] → (newest ≡ 10 → ⊥) → is_full_by most (length bytes) s ≡ false → Decides Reads fields most bad large frame bytes (Ok None)
+    pub unended : {F : Type 0} (frame : H → F) (extra : ℕ) → Grammar Reads fields extra → (bytes kept : List ℕ) (newest : ℕ) (s : LineCount) → HasGrown Reads fields most bytes
+        → s ≡ count_from no_lines bytes → bytes ≡ kept ++ newest ∷ [] → (newest ≡ 10 → ⊥) → is_full_by most (length bytes) s ≡ false → Decides Reads fields most bad large frame bytes (Ok None)
     unended frame extra grammar bytes kept newest s g is ends other shut =
         decides_more frame bytes g
         (λ h reads.
@@ -211,13 +211,13 @@ module _ {H : Type 0} (Reads : List ℕ → H → List ℕ → Type 0) (fields :
         (not_full_by most bytes s is shut)
 
     -- what was parsed is not all there
-    pub partial_more : {F : Type 0} (frame : H → F) (bytes : List ℕ) (s : Scan) → HasGrown Reads fields most bytes
-        → s ≡ scan_from no_lines bytes → is_full_by most (length bytes) s ≡ false → ((h : H) (rest : List ℕ) → ¬ (Reads bytes h rest)) → Decides Reads fields most bad large frame bytes (Ok None)
+    pub partial_more : {F : Type 0} (frame : H → F) (bytes : List ℕ) (s : LineCount) → HasGrown Reads fields most bytes
+        → s ≡ count_from no_lines bytes → is_full_by most (length bytes) s ≡ false → ((h : H) (rest : List ℕ) → ¬ (Reads bytes h rest)) → Decides Reads fields most bad large frame bytes (Ok None)
     partial_more frame bytes s g is shut never = decides_more frame bytes g (λ h reads. never h [] reads) (not_full_by most bytes s is shut)
 
     -- what was parsed is full
-    pub partial_full : (extra : ℕ) → Grammar Reads fields extra → (bytes : List ℕ) (s : Scan) → HasGrown Reads fields most bytes
-        → s ≡ scan_from no_lines bytes → is_full_by most (length bytes) s ≡ true → ((h : H) (rest : List ℕ) → ¬ (Reads bytes h rest)) → Refuses Reads fields most bad large bytes large
+    pub partial_full : (extra : ℕ) → Grammar Reads fields extra → (bytes : List ℕ) (s : LineCount) → HasGrown Reads fields most bytes
+        → s ≡ count_from no_lines bytes → is_full_by most (length bytes) s ≡ true → ((h : H) (rest : List ℕ) → ¬ (Reads bytes h rest)) → Refuses Reads fields most bad large bytes large
     partial_full extra grammar bytes s g is full never =
         decides_large extra grammar bytes g (record { front = bytes; rest = []; is = sym (append-nil bytes); full = full_by most bytes s is full }) (λ h rest reads. absurd (never h rest reads))
 
@@ -250,8 +250,8 @@ module _ {H : Type 0} (Reads : List ℕ → H → List ℕ → Type 0) (fields :
       pub invalid : OnInvalid parsed ((more : List ℕ) (h : H) (rest : List ℕ) → ¬ (Reads (bytes ++ more) h rest))
       pub crowded : OnTooManyHeaders parsed (Refuses Reads fields most bad large bytes large)
 
-    pub decides_rest : {P F : Type 0} (frame : H → F) (extra : ℕ) → Grammar Reads fields extra → (bytes : List ℕ) (s : Scan) → HasGrown Reads fields most bytes
-        → s ≡ scan_from no_lines bytes → (is_full : Bool) → is_full_by most (length bytes) s ≡ is_full → (parsed : Result (Status P) Error) → Parsed bytes parsed
+    pub decides_rest : {P F : Type 0} (frame : H → F) (extra : ℕ) → Grammar Reads fields extra → (bytes : List ℕ) (s : LineCount) → HasGrown Reads fields most bytes
+        → s ≡ count_from no_lines bytes → (is_full : Bool) → is_full_by most (length bytes) s ≡ is_full → (parsed : Result (Status P) Error) → Parsed bytes parsed
         → DecidesRest frame bytes (decided_by parsed is_full bad large)
     decides_rest frame extra grammar bytes s g is is_full full (Ok (Complete p)) x = tt
     decides_rest frame extra grammar bytes s g is true full (Ok Partial) x = partial_full extra grammar bytes s g is full x.partial
@@ -265,8 +265,8 @@ module _ {H : Type 0} (Reads : List ℕ → H → List ℕ → Type 0) (fields :
     decides_rest frame extra grammar bytes s g is is_full full (Err Version) x = decides_malformed extra grammar bytes g (x.invalid (λ e. cc))
 
     -- what is decided where a parser found no head, from its clauses
-    pub decides_none : {P F : Type 0} (frame : H → F) (extra : ℕ) → Grammar Reads fields extra → most ≤ 65 + extra → (bytes : List ℕ) (s : Scan) → HasGrown Reads fields most bytes
-        → s ≡ scan_from no_lines bytes → (is_full : Bool) → is_full ≡ is_full_by most (length bytes) s → (parsed : Result (Status P) Error)
+    pub decides_none : {P F : Type 0} (frame : H → F) (extra : ℕ) → Grammar Reads fields extra → most ≤ 65 + extra → (bytes : List ℕ) (s : LineCount) → HasGrown Reads fields most bytes
+        → s ≡ count_from no_lines bytes → (is_full : Bool) → is_full ≡ is_full_by most (length bytes) s → (parsed : Result (Status P) Error)
         → OnPartial parsed ((h : H) (rest : List ℕ) → ¬ (Reads bytes h rest))
         → OnInvalid parsed ((more : List ℕ) (h : H) (rest : List ℕ) → ¬ (Reads (bytes ++ more) h rest))
         → OnTooManyHeaders parsed ((front : List ℕ) × (rest : List ℕ) × (bytes ≡ front ++ rest) × (h : H) × Reads (front ++ print_end lf) h [] × (64 < length (fields h)))

@@ -8,7 +8,7 @@ pub mod Lines
 pub mod ReplyFacts
 pub mod Requesting
 pub mod MachineFacts
-pub mod Scans
+pub mod CountFacts
 pub mod Stepping
 pub mod Runs
 pub mod Tallies

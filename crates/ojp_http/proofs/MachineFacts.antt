@@ -1,4 +1,4 @@
--- How the machine moves from place to place.
+-- How the machine moves from phase to phase.
 use Rattle.std.proofs.Common.{◌≡◌, ℕ, ◌+◌, ◌-◌, ◌*◌, ◌≤◌, ◌<◌, Bool, true, false, List, [], ◌∷◌, ◌++◌, length, refl, sym, ap, ◌∙◌, arith, subst, inl, inr, suc, zero, Option, Some, None, if◌then◌else◌, nat_le, nat_lt, ◌&&◌, not, map}
 use Rattle.std.specs.Prelude.{◌==◌, ◌≢◌}
 use Rattle.std.specs.Str.Parse.{digits_value}
@@ -8,15 +8,15 @@ use Rattle.ojp_http.specs.declared.refusal.Frame.{Frame}
 use Rattle.ojp_http.specs.declared.refusal.Frame.TheVariants.{Counted, Chunked}
 use Rattle.ojp_http.specs.declared.refusal.Frame.TheVariants as frames
 use Rattle.ojp_http.specs.declared.refusal.Refusal.TheVariants as refusals
-use Rattle.ojp_http.specs.declared.machine.Place.{Place}
-use Rattle.ojp_http.specs.declared.machine.Place.TheVariants.{Head, ReplyHead, Content, Line, Data, Return, Trailing, Whole}
+use Rattle.ojp_http.specs.declared.machine.Phase.{Phase}
+use Rattle.ojp_http.specs.declared.machine.Phase.TheVariants.{Head, ReplyHead, Content, Line, Data, Return, Trailing, Whole}
 use Rattle.ojp_http.specs.declared.machine.Framing.{Framing}
 use Rattle.ojp_http.specs.Verdicts.{Verdict, whole, refused, cut, after}
 use Rattle.ojp_http.specs.Heads.{HasNoHead, IsFull, IsFullAt}
 use Rattle.ojp_http.specs.Bodies.{EndsHere, Takes, EndsChunk, Chunks, Trailer, Sized, room_after, IsAbove, has_no_feed, ReadsTrailer, Asks, Replies}
 use Rattle.ojp_http.specs.Machine.{content_left, chunk_left, chunk_start, ReadsAt, IsOpenAt, work_at, room_at, SpendsBy, FrameSpends, SizedSpends, IsCountedBy, IsBounded, FollowsFrame, Begins, IsNewRequest, IsNewReply}
-use Rattle.ojp_http.specs.Scanned.{no_lines, scan_from}
-use Rattle.ojp_http.specs.declared.scan.Scan.{Scan}
+use Rattle.ojp_http.specs.LineCounts.{no_lines, count_from}
+use Rattle.ojp_http.specs.declared.count.LineCount.{LineCount}
 use Rattle.ojp_http.proofs.Headed.{Grammar, both_empty, no_end}
 use Rattle.ojp_http.proofs.Grammars.{trailers, requests, responses}
 use Rattle.ojp_http.proofs.Lines.{heading_ends_in}
@@ -44,7 +44,7 @@ not_full_nil most pos full =
     let now : IsFullAt most [] = subst (IsFullAt most) (both_empty full.front full.rest (sym full.is)).0 full.full in
     elim now [ inl long ↦ omega (arith, long) | inr lined ↦ omega (arith, lined.0, pos) ]
 
--- ---- places
+-- ---- phases
 
 -- P at zero and above it
 by_size : (n : ℕ) (P : Bool → Type 0) → (n ≡ 0 → P true) → (0 < n → P false) → P (n == 0)
@@ -63,11 +63,11 @@ chunk_reads n room kept rest v =
     (λ e r. Takes.taken [] rest v refl (sym e) r (sym (after-nil v)))
     (λ pos r. r)
 
-pub content_open : (n : ℕ) (kept : List ℕ) (scan : Scan) → IsOpenAt (content_left n) kept scan
-content_open n kept scan = by_size n (λ t. IsOpenAt (if t then Whole else Content n) kept scan) (λ e. tt) (λ pos. pos)
+pub content_open : (n : ℕ) (kept : List ℕ) (count : LineCount) → IsOpenAt (content_left n) kept count
+content_open n kept count = by_size n (λ t. IsOpenAt (if t then Whole else Content n) kept count) (λ e. tt) (λ pos. pos)
 
-pub chunk_open : (n : ℕ) (kept : List ℕ) (scan : Scan) → IsOpenAt (chunk_left n) kept scan
-chunk_open n kept scan = by_size n (λ t. IsOpenAt (if t then Return false else Data n) kept scan) (λ e. tt) (λ pos. pos)
+pub chunk_open : (n : ℕ) (kept : List ℕ) (count : LineCount) → IsOpenAt (chunk_left n) kept count
+chunk_open n kept count = by_size n (λ t. IsOpenAt (if t then Return false else Data n) kept count) (λ e. tt) (λ pos. pos)
 
 pub content_work : (n room kept : ℕ) → (work_at (content_left n) room kept ≤ n) × (room_at (content_left n) room ≤ n)
 content_work n room kept =
@@ -87,65 +87,65 @@ not_chunk n = by_size n (λ t. (if t then Return false else Data n) ≢ ReplyHea
 
 -- ---- frames
 
-counted_spends : (room : Option ℕ) (n kept : ℕ) → IsBounded room (Counted n) → (f : Framing) → f.room ≡ room → f.place ≡ content_left n → FrameSpends room f
+counted_spends : (room : Option ℕ) (n kept : ℕ) → IsBounded room (Counted n) → (f : Framing) → f.room ≡ room → f.phase ≡ content_left n → FrameSpends room f
 counted_spends None n kept b f r p = tt
 counted_spends (Some room) n kept b f r p =
-    subst (λ (o : Option ℕ). SpendsBy (Some room) Head 16384 o f.place (length f.kept.items) 1 0) (sym r)
-    (subst (λ (q : Place). SpendsBy (Some room) Head 16384 (Some room) q (length f.kept.items) 1 0) (sym p)
+    subst (λ (o : Option ℕ). SpendsBy (Some room) Head 16384 o f.phase (length f.kept.items) 1 0) (sym r)
+    (subst (λ (q : Phase). SpendsBy (Some room) Head 16384 (Some room) q (length f.kept.items) 1 0) (sym p)
     (let w = content_work n room (length f.kept.items) in (omega (arith, w.0, b.1), omega (arith, w.1, b.1), not_content n)))
 
-chunked_spends : (room : Option ℕ) → IsBounded room Chunked → (f : Framing) → f.room ≡ room → f.place ≡ Line → FrameSpends room f
+chunked_spends : (room : Option ℕ) → IsBounded room Chunked → (f : Framing) → f.room ≡ room → f.phase ≡ Line → FrameSpends room f
 chunked_spends None b f r p = tt
 chunked_spends (Some room) b f r p =
-    subst (λ (o : Option ℕ). SpendsBy (Some room) Head 16384 o f.place (length f.kept.items) 1 0) (sym r)
-    (subst (λ (q : Place). SpendsBy (Some room) Head 16384 (Some room) q (length f.kept.items) 1 0) (sym p)
+    subst (λ (o : Option ℕ). SpendsBy (Some room) Head 16384 o f.phase (length f.kept.items) 1 0) (sym r)
+    (subst (λ (q : Phase). SpendsBy (Some room) Head 16384 (Some room) q (length f.kept.items) 1 0) (sym p)
     (omega (arith, b.0), omega (arith, b.0), λ e. cc))
 
 -- the machine goes to a body by its length
-pub follows_counted : (room : Option ℕ) (n : ℕ) (f : Framing) → IsBounded room (Counted n) → f.room ≡ room → f.place ≡ content_left n → FollowsFrame room (Counted n) f
+pub follows_counted : (room : Option ℕ) (n : ℕ) (f : Framing) → IsBounded room (Counted n) → f.room ≡ room → f.phase ≡ content_left n → FollowsFrame room (Counted n) f
 follows_counted room n f b r p = record {
-  reads = λ rest v x. content_reads n f.room f.kept.items rest v (subst (λ (q : Place). ReadsAt q f.room f.kept.items rest v) p x);
-  ready = subst (λ (q : Place). IsOpenAt q f.kept.items f.scan) (sym p) (content_open n f.kept.items f.scan);
+  reads = λ rest v x. content_reads n f.room f.kept.items rest v (subst (λ (q : Phase). ReadsAt q f.room f.kept.items rest v) p x);
+  ready = subst (λ (q : Phase). IsOpenAt q f.kept.items f.count) (sym p) (content_open n f.kept.items f.count);
   spends = counted_spends room n 0 b f r p;
 }
 
 -- the machine goes to a body in chunks
-pub follows_chunked : (room : Option ℕ) (f : Framing) → IsBounded room Chunked → f.room ≡ room → f.place ≡ Line → f.kept.items ≡ [] → FollowsFrame room Chunked f
+pub follows_chunked : (room : Option ℕ) (f : Framing) → IsBounded room Chunked → f.room ≡ room → f.phase ≡ Line → f.kept.items ≡ [] → FollowsFrame room Chunked f
 follows_chunked room f b r p k = record {
   reads = λ rest v x.
-      let here : ReadsAt Line f.room f.kept.items rest v = subst (λ (q : Place). ReadsAt q f.room f.kept.items rest v) p x in
+      let here : ReadsAt Line f.room f.kept.items rest v = subst (λ (q : Phase). ReadsAt q f.room f.kept.items rest v) p x in
       subst (λ (o : Option ℕ). Chunks o rest v) r (subst (λ (l : List ℕ). Chunks f.room (l ++ rest) v) k here);
-  ready = subst (λ (q : Place). IsOpenAt q f.kept.items f.scan) (sym p)
+  ready = subst (λ (q : Phase). IsOpenAt q f.kept.items f.count) (sym p)
       (omega (arith, ap length k), ap has_no_feed k);
   spends = chunked_spends room b f r p;
 }
 
 -- ---- chunks
 
-sized_spends : (room : Option ℕ) (size : ℕ) (f : Framing) → ¬ (IsAbove room size) → f.room ≡ room_after room size → f.place ≡ chunk_start size → f.kept.items ≡ [] → SizedSpends room size f
+sized_spends : (room : Option ℕ) (size : ℕ) (f : Framing) → ¬ (IsAbove room size) → f.room ≡ room_after room size → f.phase ≡ chunk_start size → f.kept.items ≡ [] → SizedSpends room size f
 sized_spends None size f a r p k = tt
 sized_spends (Some room) size f a r p k =
     let within : size ≤ room = omega (arith, a) in
     let none : length f.kept.items ≡ 0 = ap length k in
-    subst (λ (o : Option ℕ). SpendsBy (Some room) Line 255 o f.place (length f.kept.items) 1 0) (sym r)
-    (subst (λ (q : Place). SpendsBy (Some room) Line 255 (Some (room - size)) q (length f.kept.items) 1 0) (sym p)
+    subst (λ (o : Option ℕ). SpendsBy (Some room) Line 255 o f.phase (length f.kept.items) 1 0) (sym r)
+    (subst (λ (q : Phase). SpendsBy (Some room) Line 255 (Some (room - size)) q (length f.kept.items) 1 0) (sym p)
     (by_size size (λ t. SpendsBy (Some room) Line 255 (Some (room - size)) (if t then Trailing else Data size) (length f.kept.items) 1 0)
     (λ e. (omega (arith, e), omega (arith, e), λ q. cc)) (λ pos. (omega (arith, within, pos), omega (arith, within, pos), λ q. cc))))
 
 -- the machine goes to what a size asks for
-pub begins_sized : (room : Option ℕ) (size : ℕ) (f : Framing) → ¬ (IsAbove room size) → f.room ≡ room_after room size → f.place ≡ chunk_start size → f.kept.items ≡ [] → f.scan ≡ no_lines → Begins room size f
+pub begins_sized : (room : Option ℕ) (size : ℕ) (f : Framing) → ¬ (IsAbove room size) → f.room ≡ room_after room size → f.phase ≡ chunk_start size → f.kept.items ≡ [] → f.count ≡ no_lines → Begins room size f
 begins_sized room size f a r p k s = record {
   reads = λ rest v x.
       by_size size (λ t. ReadsAt (if t then Trailing else Data size) f.room f.kept.items rest v → Sized Chunks room size rest v)
       (λ e t. Sized.last e (subst (λ (l : List ℕ). Trailer (l ++ rest) v) k t))
       (λ pos t. Sized.chunk pos a (subst (λ (o : Option ℕ). Takes size (EndsChunk (Chunks o)) rest v) r t))
-      (subst (λ (q : Place). ReadsAt q f.room f.kept.items rest v) p x);
-  ready = subst (λ (q : Place). IsOpenAt q f.kept.items f.scan) (sym p)
-      (by_size size (λ t. IsOpenAt (if t then Trailing else Data size) f.kept.items f.scan)
+      (subst (λ (q : Phase). ReadsAt q f.room f.kept.items rest v) p x);
+  ready = subst (λ (q : Phase). IsOpenAt q f.kept.items f.count) (sym p)
+      (by_size size (λ t. IsOpenAt (if t then Trailing else Data size) f.kept.items f.count)
       (λ e. (
         subst (λ (l : List ℕ). HasNoHead ReadsTrailer (λ t. t.0) 65 l) (sym k) (no_head_nil ReadsTrailer (λ t. t.0) 65 0 trailers),
         record {
-          lines = s ∙ ap (scan_from no_lines) (sym k);
+          lines = s ∙ ap (count_from no_lines) (sym k);
           unfull = subst (λ (l : List ℕ). ¬ (IsFull 65 l)) (sym k) (not_full_nil 65 (omega arith));
         },
       ))
@@ -153,29 +153,29 @@ begins_sized room size f a r p k s = record {
   spends = sized_spends room size f a r p k;
 }
 
-pub follows_counted_at : (room : Option ℕ) (frame : Frame) (n : ℕ) (f : Framing) → frame ≡ Counted n → IsBounded room frame → f.room ≡ room → f.place ≡ content_left n → FollowsFrame room frame f
+pub follows_counted_at : (room : Option ℕ) (frame : Frame) (n : ℕ) (f : Framing) → frame ≡ Counted n → IsBounded room frame → f.room ≡ room → f.phase ≡ content_left n → FollowsFrame room frame f
 follows_counted_at room frame n f e b r p = subst (λ (q : Frame). FollowsFrame room q f) (sym e) (follows_counted room n f (subst (IsBounded room) e b) r p)
 
-pub follows_chunked_at : (room : Option ℕ) (frame : Frame) (f : Framing) → frame ≡ Chunked → IsBounded room frame → f.room ≡ room → f.place ≡ Line → f.kept.items ≡ [] → FollowsFrame room frame f
+pub follows_chunked_at : (room : Option ℕ) (frame : Frame) (f : Framing) → frame ≡ Chunked → IsBounded room frame → f.room ≡ room → f.phase ≡ Line → f.kept.items ≡ [] → FollowsFrame room frame f
 follows_chunked_at room frame f e b r p k = subst (λ (q : Frame). FollowsFrame room q f) (sym e) (follows_chunked room f (subst (IsBounded room) e b) r p k)
 
 -- a new machine
-pub new_request : (f : Framing) → f.place ≡ Head → f.kept.items ≡ [] → f.scan ≡ no_lines → IsNewRequest f
+pub new_request : (f : Framing) → f.phase ≡ Head → f.kept.items ≡ [] → f.count ≡ no_lines → IsNewRequest f
 new_request f p k s = record {
-  reads = λ rest v x. subst (λ (l : List ℕ). Asks (l ++ rest) v) k (subst (λ (q : Place). ReadsAt q f.room f.kept.items rest v) p x);
-  ready = subst (λ (q : Place). IsOpenAt q f.kept.items f.scan) (sym p) (
+  reads = λ rest v x. subst (λ (l : List ℕ). Asks (l ++ rest) v) k (subst (λ (q : Phase). ReadsAt q f.room f.kept.items rest v) p x);
+  ready = subst (λ (q : Phase). IsOpenAt q f.kept.items f.count) (sym p) (
     subst (λ (l : List ℕ). HasNoHead ReadsRequest (λ (h : RequestHead). h.fields) 66 l) (sym k) (no_head_nil ReadsRequest (λ (h : RequestHead). h.fields) 66 1 requests),
-    record { lines = s ∙ ap (scan_from no_lines) (sym k); unfull = subst (λ (l : List ℕ). ¬ (IsFull 66 l)) (sym k) (not_full_nil 66 (omega arith)) },
+    record { lines = s ∙ ap (count_from no_lines) (sym k); unfull = subst (λ (l : List ℕ). ¬ (IsFull 66 l)) (sym k) (not_full_nil 66 (omega arith)) },
   );
   unfinished = λ w. let e : Head ≡ Whole = sym p ∙ w in cc;
 }
 
-pub new_reply : (f : Framing) → f.place ≡ ReplyHead → f.kept.items ≡ [] → f.scan ≡ no_lines → IsNewReply f
+pub new_reply : (f : Framing) → f.phase ≡ ReplyHead → f.kept.items ≡ [] → f.count ≡ no_lines → IsNewReply f
 new_reply f p k s = record {
-  reads = λ rest v x. subst (λ (l : List ℕ). Replies (l ++ rest) v) k (subst (λ (q : Place). ReadsAt q f.room f.kept.items rest v) p x);
-  ready = subst (λ (q : Place). IsOpenAt q f.kept.items f.scan) (sym p) (
+  reads = λ rest v x. subst (λ (l : List ℕ). Replies (l ++ rest) v) k (subst (λ (q : Phase). ReadsAt q f.room f.kept.items rest v) p x);
+  ready = subst (λ (q : Phase). IsOpenAt q f.kept.items f.count) (sym p) (
     subst (λ (l : List ℕ). HasNoHead ReadsResponse (λ (h : ResponseHead). h.fields) 66 l) (sym k) (no_head_nil ReadsResponse (λ (h : ResponseHead). h.fields) 66 1 responses),
-    record { lines = s ∙ ap (scan_from no_lines) (sym k); unfull = subst (λ (l : List ℕ). ¬ (IsFull 66 l)) (sym k) (not_full_nil 66 (omega arith)) },
+    record { lines = s ∙ ap (count_from no_lines) (sym k); unfull = subst (λ (l : List ℕ). ¬ (IsFull 66 l)) (sym k) (not_full_nil 66 (omega arith)) },
   );
   unfinished = λ w. let e : ReplyHead ≡ Whole = sym p ∙ w in cc;
 }

@@ -15,7 +15,7 @@ pub open_cut : (r : ReplyView) (bytes got : List ℕ) → r.stage ≡ Reading �
 open_cut r bytes got s h =
     let t : HasTaken r bytes got = subst (λ (q : Stage). HasFedAt q r bytes got) s h in
     subst (λ (l : List ℕ). Replies l (cut got)) (append-nil bytes)
-    (subst (λ (l : List ℕ). Replies (bytes ++ []) (cut l)) (append-nil got) (t.reads [] (cut []) (cut_at r.place r.room r.kept r.scan t.ready t.unfinished)))
+    (subst (λ (l : List ℕ). Replies (bytes ++ []) (cut l)) (append-nil got) (t.reads [] (cut []) (cut_at r.phase r.room r.kept r.count t.ready t.unfinished)))
 
 pub open_holds_none : OpenHoldsNone
 open_holds_none r bytes got front rest body s h is x =

@@ -6,8 +6,8 @@ use Rattle.ojp_http.specs.declared.fed.ReplyFed.TheVariants as fed
 use Rattle.ojp_http.specs.declared.fed.ReplyRefused.{ReplyRefused}
 use Rattle.ojp_http.specs.declared.fed.ReplyRefused.TheVariants as refused_as
 use Rattle.ojp_http.specs.declared.fed.Stage.TheVariants.{Whole, Over}
-use Rattle.ojp_http.specs.declared.machine.Place.{Place}
-use Rattle.ojp_http.specs.declared.machine.Place.TheVariants as places
+use Rattle.ojp_http.specs.declared.machine.Phase.{Phase}
+use Rattle.ojp_http.specs.declared.machine.Phase.TheVariants as phases
 use Rattle.ojp_http.specs.declared.machine.Framing.{Framing}
 use Rattle.ojp_http.specs.declared.machine.Stop.{Stop}
 use Rattle.ojp_http.specs.declared.machine.Stop.TheVariants.{Refused, NoMemory}
@@ -20,30 +20,30 @@ use Rattle.ojp_http.specs.declared.refusal.Refusal.{Refusal}
 use Rattle.ojp_http.proofs.WholeMessages.{replies_only, beginning_law}
 use Rattle.ojp_http.proofs.MachineFacts.{after-nil}
 use Rattle.ojp_http.proofs.Stepping.{after-append}
-use Rattle.ojp_http.proofs.Feeding.{whole_place}
+use Rattle.ojp_http.proofs.Feeding.{whole_phase}
 use Rattle.ojp_http.proofs.Headed.{both_empty}
 use Rattle.ojp_http.proofs.Opened.{open_cut, open_goes_on}
 use Rattle.ojp_http.proofs.Requesting.{take_length}
 
-not_whole : (p : Place) → p ≢ places.Whole → is_whole_at p ≡ false
-not_whole places.Head n = refl
-not_whole places.ReplyHead n = refl
-not_whole (places.Content left) n = refl
-not_whole places.Line n = refl
-not_whole (places.Data left) n = refl
-not_whole (places.Return has_return) n = refl
-not_whole places.Trailing n = refl
-not_whole places.Whole n = absurd (n refl)
+not_whole : (p : Phase) → p ≢ phases.Whole → is_whole_at p ≡ false
+not_whole phases.Head n = refl
+not_whole phases.ReplyHead n = refl
+not_whole (phases.Content left) n = refl
+not_whole phases.Line n = refl
+not_whole (phases.Data left) n = refl
+not_whole (phases.Return has_return) n = refl
+not_whole phases.Trailing n = refl
+not_whole phases.Whole n = absurd (n refl)
 
 pub taken_none : (f : Framing) → IsNewReply f → HasTaken (framed f) [] []
 taken_none f n = record {
   reads = λ rest v x. subst (λ (w : Verdict). Replies rest w) (sym (after-nil v)) (n.reads rest v x);
   ready = n.ready;
-  unfinished = not_whole f.place n.unfinished;
+  unfinished = not_whole f.phase n.unfinished;
 }
 
-pub open_new : (f : Framing) → IsNewReply f → IsOpenAt f.place f.kept.items f.scan × (is_whole_at f.place ≡ false)
-open_new f n = (n.ready, not_whole f.place n.unfinished)
+pub open_new : (f : Framing) → IsNewReply f → IsOpenAt f.phase f.kept.items f.count × (is_whole_at f.phase ≡ false)
+open_new f n = (n.ready, not_whole f.phase n.unfinished)
 
 -- where the bytes are refused, no reply begins with them
 pub begins_none : (bytes : List ℕ) (e : Refusal) → ((rest : List ℕ) → Replies (bytes ++ rest) (refused e)) → BeginsNoReply bytes
@@ -64,11 +64,11 @@ feeds_behind bytes got piece before some x =
     ((refl, not_nil piece some, refl, begins_longer bytes got piece x (not_nil piece some)), refl)
 
 module _ (f g : Framing) (bytes got piece items out : List ℕ) where
-  whole_core : (used : ℕ) → HasTaken (framed f) bytes got → Took f g piece items out used → is_whole_at g.place ≡ true
+  whole_core : (used : ℕ) → HasTaken (framed f) bytes got → Took f g piece items out used → is_whole_at g.phase ≡ true
       → ReadsOn (ended Whole) bytes got piece items out (Ok (fed.Whole used))
   whole_core used h t w =
       let gained = t.goes.gained in
-      let here : Reads g [] (whole [] []) = subst (λ (p : Place). ReadsAt p g.room g.kept.items [] (whole [] [])) (sym (whole_place g.place w)) refl in
+      let here : Reads g [] (whole [] []) = subst (λ (p : Phase). ReadsAt p g.room g.kept.items [] (whole [] [])) (sym (whole_phase g.phase w)) refl in
       let all : Replies (bytes ++ (take used piece ++ [])) (whole (got ++ (gained ++ [])) []) = h.reads (take used piece ++ []) (whole (gained ++ []) []) (t.goes.moves.reads [] (whole [] []) here) in (
         record {
           within = t.goes.within;
@@ -80,7 +80,7 @@ module _ (f g : Framing) (bytes got piece items out : List ℕ) where
         refl,
       )
 
-  more_core : (used : ℕ) → HasTaken (framed f) bytes got → Took f g piece items out used → is_whole_at g.place ≡ false
+  more_core : (used : ℕ) → HasTaken (framed f) bytes got → Took f g piece items out used → is_whole_at g.phase ≡ false
       → ReadsOn (framed g) bytes got piece items out (Ok fed.More)
   more_core used h t n =
       let gained = t.goes.gained in
@@ -124,11 +124,11 @@ module _ (f g : Framing) (bytes got piece items out : List ℕ) where
     place_in new r reads =
         subst (λ (l : List ℕ). ReadsOn new bytes got piece l end r) (sym b) (subst (λ (l : List ℕ). ReadsOn new bytes got piece items l r) (sym a) reads)
 
-    pub reads_whole : (used : ℕ) → Took f g piece items out used → is_whole_at g.place ≡ true
+    pub reads_whole : (used : ℕ) → Took f g piece items out used → is_whole_at g.phase ≡ true
         → HasTaken (framed f) bytes got → ReadsOn (ended Whole) bytes got piece before end (Ok (fed.Whole used))
     reads_whole used t w x = place_in (ended Whole) (Ok (fed.Whole used)) (whole_core used x t w)
 
-    pub reads_more : (used : ℕ) → Took f g piece items out used → is_whole_at g.place ≡ false
+    pub reads_more : (used : ℕ) → Took f g piece items out used → is_whole_at g.phase ≡ false
         → HasTaken (framed f) bytes got → ReadsOn (framed g) bytes got piece before end (Ok fed.More)
     reads_more used t n x = place_in (framed g) (Ok fed.More) (more_core used x t n)
 

@@ -7,20 +7,20 @@ use Rattle.std.proofs.lemmas.List.{length-take-le, get_or-take}
 use Rattle.memchr.specs.Find.{IsFirstByte, is_byte}
 use Rattle.httparse.specs.Grammar.{Field, RequestHead, ReadsRequest, ResponseHead, ReadsResponse}
 use Rattle.ojp_http.specs.declared.refusal.Refusal.TheVariants as refusals
-use Rattle.ojp_http.specs.declared.machine.Place.{Place}
-use Rattle.ojp_http.specs.declared.machine.Place.TheVariants.{Head, ReplyHead, Content, Line, Data, Return, Trailing, Whole}
+use Rattle.ojp_http.specs.declared.machine.Phase.{Phase}
+use Rattle.ojp_http.specs.declared.machine.Phase.TheVariants.{Head, ReplyHead, Content, Line, Data, Return, Trailing, Whole}
 use Rattle.ojp_http.specs.declared.machine.Framing.{Framing}
-use Rattle.ojp_http.specs.declared.scan.Begun.{Begun}
-use Rattle.ojp_http.specs.declared.scan.Begun.TheVariants.{Nothing, Return as Returned, Other}
-use Rattle.ojp_http.specs.declared.scan.Scan.{Scan}
+use Rattle.ojp_http.specs.declared.count.Begun.{Begun}
+use Rattle.ojp_http.specs.declared.count.Begun.TheVariants.{Nothing, Return as Returned, Other}
+use Rattle.ojp_http.specs.declared.count.LineCount.{LineCount}
 use Rattle.ojp_http.specs.Bodies.{ReadsTrailer, has_no_feed}
 use Rattle.ojp_http.specs.Heads.{HasNoHead}
 use Rattle.ojp_http.specs.Machine.{IsCounted, IsOpen, IsOpenAt, IsRun, Moves, Steps, most_kept_at}
-use Rattle.ojp_http.specs.Scanned.{no_lines, begun_step, begun_run, scan_end, scan_step, scan_from, is_full_by}
+use Rattle.ojp_http.specs.LineCounts.{no_lines, begun_step, begun_run, count_end, count_step, count_from, is_full_by}
 use Rattle.ojp_http.proofs.Full.{full_by}
 use Rattle.ojp_http.proofs.Grammars.{no_feed_append, requests, responses, trailers}
 use Rattle.ojp_http.proofs.Headed.{Grammar, unended}
-use Rattle.ojp_http.proofs.Stepping.{counted_more, grown, head_more, line_more, reply_more, scanned, trailer_more}
+use Rattle.ojp_http.proofs.Stepping.{counted_more, grown, head_more, line_more, reply_more, recounted, trailer_more}
 
 -- ---- the first line feed
 
@@ -60,8 +60,8 @@ run_none most kept m n piece le lt is first =
 
 -- ---- the count of lines
 
-plain_step : (s : Scan) (b : ℕ) → (b == 10) ≡ false → scan_step s b ≡ record { begun = begun_step s.begun b; counted = s.counted; has_empty = s.has_empty }
-plain_step s b e = ap (λ (t : Bool). if t then scan_end s else record { begun = begun_step s.begun b; counted = s.counted; has_empty = s.has_empty }) e
+plain_step : (s : LineCount) (b : ℕ) → (b == 10) ≡ false → count_step s b ≡ record { begun = begun_step s.begun b; counted = s.counted; has_empty = s.has_empty }
+plain_step s b e = ap (λ (t : Bool). if t then count_end s else record { begun = begun_step s.begun b; counted = s.counted; has_empty = s.has_empty }) e
 
 -- a second byte makes a line that is not empty
 second_step : (begun : Begun) (b c : ℕ) → begun_step (begun_step begun b) c ≡ Other
@@ -74,13 +74,13 @@ begun_more begun b c [] = second_step begun b c
 begun_more begun b c (d ∷ run) = refl
 
 -- the line that has begun grows
-pub run_scan : (run : List ℕ) (s : Scan) → has_no_feed run ≡ true → scan_from s run ≡ record { begun = begun_run s.begun run; counted = s.counted; has_empty = s.has_empty }
-run_scan [] s h = refl
-run_scan (b ∷ []) s h = plain_step s b (not-true (b == 10) (and_parts (not (b == 10)) true h).0)
-run_scan (b ∷ c ∷ run) s h =
+pub run_count : (run : List ℕ) (s : LineCount) → has_no_feed run ≡ true → count_from s run ≡ record { begun = begun_run s.begun run; counted = s.counted; has_empty = s.has_empty }
+run_count [] s h = refl
+run_count (b ∷ []) s h = plain_step s b (not-true (b == 10) (and_parts (not (b == 10)) true h).0)
+run_count (b ∷ c ∷ run) s h =
     let two = and_parts (not (b == 10)) (has_no_feed (c ∷ run)) h in
-    ap (λ (t : Scan). scan_from t (c ∷ run)) (plain_step s b (not-true (b == 10) two.0))
-    ∙ run_scan (c ∷ run) (record { begun = begun_step s.begun b; counted = s.counted; has_empty = s.has_empty }) two.1
+    ap (λ (t : LineCount). count_from t (c ∷ run)) (plain_step s b (not-true (b == 10) two.0))
+    ∙ run_count (c ∷ run) (record { begun = begun_step s.begun b; counted = s.counted; has_empty = s.has_empty }) two.1
     ∙ ap (λ (t : Begun). record { begun = t; counted = s.counted; has_empty = s.has_empty }) (begun_more s.begun b c run)
 
 pub begun_none : (begun : Begun) (run : List ℕ) → length run ≡ 0 → begun ≡ begun_run begun run
@@ -100,7 +100,7 @@ begun_many begun (b ∷ c ∷ run) none one = refl
 -- ---- heads and trailers
 
 -- bytes whose lines are as many stay below the limits
-shut_more : (most : ℕ) (kept new : List ℕ) (s t : Scan) → IsCounted most kept s → t.counted ≡ s.counted → t.has_empty ≡ s.has_empty → length new < 16384
+shut_more : (most : ℕ) (kept new : List ℕ) (s t : LineCount) → IsCounted most kept s → t.counted ≡ s.counted → t.has_empty ≡ s.has_empty → length new < 16384
     → is_full_by most (length new) t ≡ false
 shut_more most kept new s t counted c h lt =
     elim (cases_Bool (is_full_by most (length new) t)) [
@@ -119,60 +119,60 @@ no_feed_byte : (b : ℕ) → (b == 10) ≡ false → b ≡ 10 → ⊥
 no_feed_byte b e is = grind (arith, nat_tests)
 
 module _ {H : Type 0} (R : List ℕ → H → List ℕ → Type 0) (fields : H → List Field) (most extra : ℕ) (grammar : Grammar R fields extra) where
-  byte_open : (kept : List ℕ) (b : ℕ) (s : Scan) → (b == 10) ≡ false → length kept + 1 < 16384 → HasNoHead R fields most kept → IsCounted most kept s
-      → HasNoHead R fields most (kept ++ b ∷ []) × IsCounted most (kept ++ b ∷ []) (scan_step s b)
+  byte_open : (kept : List ℕ) (b : ℕ) (s : LineCount) → (b == 10) ≡ false → length kept + 1 < 16384 → HasNoHead R fields most kept → IsCounted most kept s
+      → HasNoHead R fields most (kept ++ b ∷ []) × IsCounted most (kept ++ b ∷ []) (count_step s b)
   byte_open kept b s e lt none counted =
       let new : List ℕ = kept ++ b ∷ [] in
       let g = grown R fields most kept new b s refl none counted in
-      let is = scanned kept new b s (scan_step s b) refl counted.lines refl in
+      let is = recounted kept new b s (count_step s b) refl counted.lines refl in
       let step = plain_step s b e in
-      let shut = shut_more most kept new s (scan_step s b) counted (ap (λ (v : Scan). v.counted) step) (ap (λ (v : Scan). v.has_empty) step) (omega (arith, length-append kept (b ∷ []), lt)) in
-      let d = unended R fields most refusals.Head refusals.TooLargeHead (λ h. tt {0}) extra grammar new kept b (scan_step s b) g is refl (no_feed_byte b e) shut in
-      (d.0, counted_more R fields most new (scan_step s b) g is d.1)
+      let shut = shut_more most kept new s (count_step s b) counted (ap (λ (v : LineCount). v.counted) step) (ap (λ (v : LineCount). v.has_empty) step) (omega (arith, length-append kept (b ∷ []), lt)) in
+      let d = unended R fields most refusals.Head refusals.TooLargeHead (λ h. tt {0}) extra grammar new kept b (count_step s b) g is refl (no_feed_byte b e) shut in
+      (d.0, counted_more R fields most new (count_step s b) g is d.1)
 
   -- nothing is decided in a run
-  run_open : (run kept : List ℕ) (s : Scan) → has_no_feed run ≡ true → length kept + length run < 16384 → HasNoHead R fields most kept → IsCounted most kept s
-      → HasNoHead R fields most (kept ++ run) × IsCounted most (kept ++ run) (scan_from s run)
+  run_open : (run kept : List ℕ) (s : LineCount) → has_no_feed run ≡ true → length kept + length run < 16384 → HasNoHead R fields most kept → IsCounted most kept s
+      → HasNoHead R fields most (kept ++ run) × IsCounted most (kept ++ run) (count_from s run)
   run_open [] kept s h lt none counted =
       subst (λ (l : List ℕ). HasNoHead R fields most l × IsCounted most l s) (sym (append-nil kept)) (none, counted)
   run_open (b ∷ run) kept s h lt none counted =
       let two = and_parts (not (b == 10)) (has_no_feed run) h in
       let one = byte_open kept b s (not-true (b == 10) two.0) (omega arith) none counted in
-      let all = run_open run (kept ++ b ∷ []) (scan_step s b) two.1 (omega (arith, lt, length-append kept (b ∷ []))) one.0 one.1 in
-      subst (λ (l : List ℕ). HasNoHead R fields most l × IsCounted most l (scan_from (scan_step s b) run)) (append_assoc kept (b ∷ []) run) all
+      let all = run_open run (kept ++ b ∷ []) (count_step s b) two.1 (omega (arith, lt, length-append kept (b ∷ []))) one.0 one.1 in
+      subst (λ (l : List ℕ). HasNoHead R fields most l × IsCounted most l (count_from (count_step s b) run)) (append_assoc kept (b ∷ []) run) all
 
   -- and so of what was kept with it
-  run_ready : (run kept new : List ℕ) (s t : Scan) → new ≡ kept ++ run → t ≡ scan_from s run → has_no_feed run ≡ true → length kept + length run < 16384
+  run_ready : (run kept new : List ℕ) (s t : LineCount) → new ≡ kept ++ run → t ≡ count_from s run → has_no_feed run ≡ true → length kept + length run < 16384
       → HasNoHead R fields most kept × IsCounted most kept s → HasNoHead R fields most new × IsCounted most new t
   run_ready run kept new s t k e h lt ready =
       let all = run_open run kept s h lt ready.0 ready.1 in
-      let at : HasNoHead R fields most (kept ++ run) × IsCounted most (kept ++ run) t = subst (λ (v : Scan). HasNoHead R fields most (kept ++ run) × IsCounted most (kept ++ run) v) (sym e) all in
+      let at : HasNoHead R fields most (kept ++ run) × IsCounted most (kept ++ run) t = subst (λ (v : LineCount). HasNoHead R fields most (kept ++ run) × IsCounted most (kept ++ run) v) (sym e) all in
       subst (λ (l : List ℕ). HasNoHead R fields most l × IsCounted most l t) (sym k) at
 
 -- ---- steps
 
-moves_at : (p : Place) (old new : Framing) (run : List ℕ) → old.place ≡ p → new.place ≡ p → new.room ≡ old.room → new.kept.items ≡ old.kept.items ++ run
-    → new.scan ≡ scan_from old.scan run → has_no_feed run ≡ true → length old.kept.items + length run < most_kept_at p → IsOpenAt p old.kept.items old.scan → Moves old new run []
+moves_at : (p : Phase) (old new : Framing) (run : List ℕ) → old.phase ≡ p → new.phase ≡ p → new.room ≡ old.room → new.kept.items ≡ old.kept.items ++ run
+    → new.count ≡ count_from old.count run → has_no_feed run ≡ true → length old.kept.items + length run < most_kept_at p → IsOpenAt p old.kept.items old.count → Moves old new run []
 moves_at Head old new run a c r k s h lt ready =
-    head_more old new run a c r k (run_ready ReadsRequest (λ (h : RequestHead). h.fields) 66 1 requests run old.kept.items new.kept.items old.scan new.scan k s h lt ready)
+    head_more old new run a c r k (run_ready ReadsRequest (λ (h : RequestHead). h.fields) 66 1 requests run old.kept.items new.kept.items old.count new.count k s h lt ready)
 moves_at ReplyHead old new run a c r k s h lt ready =
-    reply_more old new run a c k (run_ready ReadsResponse (λ (h : ResponseHead). h.fields) 66 1 responses run old.kept.items new.kept.items old.scan new.scan k s h lt ready)
+    reply_more old new run a c k (run_ready ReadsResponse (λ (h : ResponseHead). h.fields) 66 1 responses run old.kept.items new.kept.items old.count new.count k s h lt ready)
 moves_at (Content left) old new run a c r k s h lt ready = absurd (omega arith)
 moves_at Line old new run a c r k s h lt ready =
     line_more old new run a c r k (omega (arith, ap length k, length-append old.kept.items run, lt), ap has_no_feed k ∙ no_feed_append old.kept.items run ready.1 h)
 moves_at (Data left) old new run a c r k s h lt ready = absurd (omega arith)
 moves_at (Return has_return) old new run a c r k s h lt ready = absurd (omega arith)
 moves_at Trailing old new run a c r k s h lt ready =
-    trailer_more old new run a c r k (run_ready ReadsTrailer (λ t. t.0) 65 0 trailers run old.kept.items new.kept.items old.scan new.scan k s h lt ready)
+    trailer_more old new run a c r k (run_ready ReadsTrailer (λ t. t.0) 65 0 trailers run old.kept.items new.kept.items old.count new.count k s h lt ready)
 moves_at Whole old new run a c r k s h lt ready = absurd (omega arith)
 
 -- a run in front of the piece is kept
-pub run_kept : (old new : Framing) (piece before : List ℕ) (n : ℕ) → IsOpen old → IsRun (most_kept_at old.place) (length old.kept.items) piece n → 0 < n
-    → new.place ≡ old.place → new.room ≡ old.room → new.kept.items ≡ old.kept.items ++ take n piece → new.scan ≡ scan_from old.scan (take n piece) → Steps old piece before (Ok n) new before
+pub run_kept : (old new : Framing) (piece before : List ℕ) (n : ℕ) → IsOpen old → IsRun (most_kept_at old.phase) (length old.kept.items) piece n → 0 < n
+    → new.phase ≡ old.phase → new.room ≡ old.room → new.kept.items ≡ old.kept.items ++ take n piece → new.count ≡ count_from old.count (take n piece) → Steps old piece before (Ok n) new before
 run_kept old new piece before n ready run some c r k s = record {
   some = some;
   within = run.within;
   gained = [];
   grows = sym (append-nil before);
-  moves = moves_at old.place old new (take n piece) refl c r k s run.plain (omega (arith, run.unfull some, length-take-le n piece run.within)) ready;
+  moves = moves_at old.phase old new (take n piece) refl c r k s run.plain (omega (arith, run.unfull some, length-take-le n piece run.within)) ready;
 }

@@ -5,8 +5,8 @@ use Rattle.httparse.specs.Grammar.{Field, RequestHead, ReadsRequest, ResponseHea
 use Rattle.ojp_http.specs.declared.refusal.Refusal.{Refusal}
 use Rattle.ojp_http.specs.declared.refusal.Refusal.TheVariants as refusals
 use Rattle.ojp_http.specs.declared.refusal.Frame.{Frame}
-use Rattle.ojp_http.specs.declared.machine.Place.{Place}
-use Rattle.ojp_http.specs.declared.machine.Place.TheVariants.{Head, ReplyHead, Content, Line, Data, Return, Trailing, Whole}
+use Rattle.ojp_http.specs.declared.machine.Phase.{Phase}
+use Rattle.ojp_http.specs.declared.machine.Phase.TheVariants.{Head, ReplyHead, Content, Line, Data, Return, Trailing, Whole}
 use Rattle.ojp_http.specs.declared.machine.Framing.{Framing}
 use Rattle.ojp_http.specs.declared.machine.Stop.{Stop}
 use Rattle.ojp_http.specs.declared.machine.Stop.TheVariants.{Refused, NoMemory}
@@ -17,39 +17,39 @@ use Rattle.ojp_http.specs.Bodies.{EndsHere, Takes, taken as takes_all, short as 
 use Rattle.ojp_http.specs.Fields.{ask_frame, reply_frame}
 use Rattle.ojp_http.specs.Machine.{ReadsAt, Reads, IsOpenAt, IsOpen, work_at, room_at, SpendsBy, Spends, limit_at, IsCounted, FrameSpends, SizedSpends, Follows, Enters, Moves, StepsBy, Steps, Advances, content_left, chunk_left, one_of}
 use Rattle.ojp_http.specs.Outcomes.{HasGrown, Refuses}
-use Rattle.ojp_http.specs.Scanned.{no_lines, scan_from, scan_step}
-use Rattle.ojp_http.specs.declared.scan.Scan.{Scan}
-use Rattle.ojp_http.proofs.Scans.{scan_from-append}
+use Rattle.ojp_http.specs.LineCounts.{no_lines, count_from, count_step}
+use Rattle.ojp_http.specs.declared.count.LineCount.{LineCount}
+use Rattle.ojp_http.proofs.CountFacts.{count_from-append}
 use Rattle.ojp_http.proofs.Full.{counted_from}
 use Rattle.ojp_http.proofs.Grammars.{no_feed_append}
 use Rattle.ojp_http.proofs.Headed.{full_now}
 use Rattle.ojp_http.proofs.MachineFacts.{after-nil, content_reads, chunk_reads, content_open, chunk_open, content_work, chunk_work, not_content, not_chunk}
 
--- ---- places
+-- ---- phases
 
-pub open_at : (f : Framing) (p : Place) → f.place ≡ p → IsOpen f → IsOpenAt p f.kept.items f.scan
-open_at f p e h = subst (λ (q : Place). IsOpenAt q f.kept.items f.scan) e h
+pub open_at : (f : Framing) (p : Phase) → f.phase ≡ p → IsOpen f → IsOpenAt p f.kept.items f.count
+open_at f p e h = subst (λ (q : Phase). IsOpenAt q f.kept.items f.count) e h
 
--- a move from one place to another
-pub move_at : (old new : Framing) (p q : Place) (front gained : List ℕ) → old.place ≡ p → new.place ≡ q
+-- a move from one phase to another
+pub move_at : (old new : Framing) (p q : Phase) (front gained : List ℕ) → old.phase ≡ p → new.phase ≡ q
     → ((rest : List ℕ) (v : Verdict) → ReadsAt q new.room new.kept.items rest v → ReadsAt p old.room old.kept.items (front ++ rest) (after gained v))
-    → IsOpenAt q new.kept.items new.scan
+    → IsOpenAt q new.kept.items new.count
     → SpendsBy (limit_at p old.room) p (length old.kept.items) new.room q (length new.kept.items) (length front) (length gained)
     → Moves old new front gained
 move_at old new p q front gained a b reads ready spends = record {
   reads = λ rest v x.
-      subst (λ (r : Place). ReadsAt r old.room old.kept.items (front ++ rest) (after gained v)) (sym a)
-      (reads rest v (subst (λ (r : Place). ReadsAt r new.room new.kept.items rest v) b x));
-  ready = subst (λ (r : Place). IsOpenAt r new.kept.items new.scan) (sym b) ready;
+      subst (λ (r : Phase). ReadsAt r old.room old.kept.items (front ++ rest) (after gained v)) (sym a)
+      (reads rest v (subst (λ (r : Phase). ReadsAt r new.room new.kept.items rest v) b x));
+  ready = subst (λ (r : Phase). IsOpenAt r new.kept.items new.count) (sym b) ready;
   spends =
-      subst (λ (r : Place). SpendsBy (limit_at r old.room) r (length old.kept.items) new.room new.place (length new.kept.items) (length front) (length gained)) (sym a)
-      (subst (λ (r : Place). SpendsBy (limit_at p old.room) p (length old.kept.items) new.room r (length new.kept.items) (length front) (length gained)) (sym b) spends);
+      subst (λ (r : Phase). SpendsBy (limit_at r old.room) r (length old.kept.items) new.room new.phase (length new.kept.items) (length front) (length gained)) (sym a)
+      (subst (λ (r : Phase). SpendsBy (limit_at p old.room) p (length old.kept.items) new.room r (length new.kept.items) (length front) (length gained)) (sym b) spends);
 }
 
--- a refusal at a place
-pub refuse_at : (old : Framing) (p : Place) (front : List ℕ) (e : Refusal) → old.place ≡ p
+-- a refusal at a phase
+pub refuse_at : (old : Framing) (p : Phase) (front : List ℕ) (e : Refusal) → old.phase ≡ p
     → ((rest : List ℕ) → ReadsAt p old.room old.kept.items (front ++ rest) (refused e)) → (rest : List ℕ) → Reads old (front ++ rest) (refused e)
-refuse_at old p front e a reads rest = subst (λ (r : Place). ReadsAt r old.room old.kept.items (front ++ rest) (refused e)) (sym a) (reads rest)
+refuse_at old p front e a reads rest = subst (λ (r : Phase). ReadsAt r old.room old.kept.items (front ++ rest) (refused e)) (sym a) (reads rest)
 
 -- ---- a byte more
 
@@ -60,35 +60,35 @@ run_rest kept new run rest e = ap (λ (l : List ℕ). l ++ rest) e ∙ append_as
 pub kept_rest : (kept new rest : List ℕ) (b : ℕ) → new ≡ kept ++ b ∷ [] → new ++ rest ≡ kept ++ b ∷ rest
 kept_rest kept new rest b e = ap (λ (l : List ℕ). l ++ rest) e ∙ append_assoc kept (b ∷ []) rest
 
-pub short_kept : (most : ℕ) (kept : List ℕ) (s : Scan) → IsCounted most kept s → length kept < 16384
+pub short_kept : (most : ℕ) (kept : List ℕ) (s : LineCount) → IsCounted most kept s → length kept < 16384
 short_kept most kept s c =
     let not : 16384 ≤ length kept → ⊥ = λ le. c.unfull (record { front = kept; rest = []; is = sym (append-nil kept); full = inl le }) in
     omega (arith, not)
 
-pub few_lines : (most : ℕ) (kept : List ℕ) (s : Scan) → IsCounted most kept s → s.counted < 2 ^ 64 - 1
-few_lines most kept s c = omega (arith, short_kept most kept s c, counted_from kept no_lines, ap (λ (v : Scan). v.counted) c.lines)
+pub few_lines : (most : ℕ) (kept : List ℕ) (s : LineCount) → IsCounted most kept s → s.counted < 2 ^ 64 - 1
+few_lines most kept s c = omega (arith, short_kept most kept s c, counted_from kept no_lines, ap (λ (v : LineCount). v.counted) c.lines)
 
-pub scanned : (kept new : List ℕ) (b : ℕ) (s t : Scan) → new ≡ kept ++ b ∷ [] → s ≡ scan_from no_lines kept → t ≡ scan_step s b → t ≡ scan_from no_lines new
-scanned kept new b s t e is step =
-    step ∙ ap (λ (v : Scan). scan_step v b) is ∙ sym (scan_from-append no_lines kept (b ∷ [])) ∙ ap (scan_from no_lines) (sym e)
+pub recounted : (kept new : List ℕ) (b : ℕ) (s t : LineCount) → new ≡ kept ++ b ∷ [] → s ≡ count_from no_lines kept → t ≡ count_step s b → t ≡ count_from no_lines new
+recounted kept new b s t e is step =
+    step ∙ ap (λ (v : LineCount). count_step v b) is ∙ sym (count_from-append no_lines kept (b ∷ [])) ∙ ap (count_from no_lines) (sym e)
 
 module _ {H : Type 0} (R : List ℕ → H → List ℕ → Type 0) (fields : H → List Field) (most : ℕ) where
-  pub grown : (kept new : List ℕ) (b : ℕ) (s : Scan) → new ≡ kept ++ b ∷ [] → HasNoHead R fields most kept → IsCounted most kept s → HasGrown R fields most new
+  pub grown : (kept new : List ℕ) (b : ℕ) (s : LineCount) → new ≡ kept ++ b ∷ [] → HasNoHead R fields most kept → IsCounted most kept s → HasGrown R fields most new
   grown kept new b s e none c = record { kept = kept; newest = b; is = e; none = none; open_ended = c.unfull }
 
   -- more bytes are counted
-  pub counted_more : (new : List ℕ) (t : Scan) → HasGrown R fields most new → t ≡ scan_from no_lines new → ¬ (IsFullAt most new) → IsCounted most new t
+  pub counted_more : (new : List ℕ) (t : LineCount) → HasGrown R fields most new → t ≡ count_from no_lines new → ¬ (IsFullAt most new) → IsCounted most new t
   counted_more new t g is unfull = record {
     lines = is;
     unfull = λ f. unfull (full_now R fields most new g f);
   }
 
   -- nothing is decided at the newest byte
-  pub ready_more : (kept new seen : List ℕ) (b : ℕ) (s t : Scan) → seen ≡ new → new ≡ kept ++ b ∷ [] → HasNoHead R fields most kept → IsCounted most kept s → t ≡ scan_step s b
+  pub ready_more : (kept new seen : List ℕ) (b : ℕ) (s t : LineCount) → seen ≡ new → new ≡ kept ++ b ∷ [] → HasNoHead R fields most kept → IsCounted most kept s → t ≡ count_step s b
       → HasNoHead R fields most seen × (¬ (IsFullAt most seen)) → HasNoHead R fields most new × IsCounted most new t
   ready_more kept new seen b s t e k none counted step x = (
     subst (HasNoHead R fields most) e x.0,
-    counted_more new t (grown kept new b s k none counted) (scanned kept new b s t k counted.lines step) (subst (λ (l : List ℕ). ¬ (IsFullAt most l)) e x.1),
+    counted_more new t (grown kept new b s k none counted) (recounted kept new b s t k counted.lines step) (subst (λ (l : List ℕ). ¬ (IsFullAt most l)) e x.1),
   )
 
   module _ (bad large : Refusal) (K : H → List ℕ → Verdict → Type 0) where
@@ -104,10 +104,10 @@ module _ {H : Type 0} (R : List ℕ → H → List ℕ → Type 0) (fields : H �
 -- ---- heads
 
 -- a head that is not all there
-more_at : (old new : Framing) (run : List ℕ) (p : Place) (M : List ℕ → Verdict → Type 0) → old.place ≡ p → new.place ≡ p
+more_at : (old new : Framing) (run : List ℕ) (p : Phase) (M : List ℕ → Verdict → Type 0) → old.phase ≡ p → new.phase ≡ p
     → new.kept.items ≡ old.kept.items ++ run
     → ((room : Option ℕ) (kept rest : List ℕ) (v : Verdict) → (ReadsAt p room kept rest v → M (kept ++ rest) v) × (M (kept ++ rest) v → ReadsAt p room kept rest v))
-    → IsOpenAt p new.kept.items new.scan
+    → IsOpenAt p new.kept.items new.count
     → SpendsBy (limit_at p old.room) p (length old.kept.items) new.room p (length new.kept.items) (length run) 0
     → Moves old new run []
 more_at old new run p M a c k is ready spends =
@@ -118,7 +118,7 @@ more_at old new run p M a c k is ready spends =
     (is old.room old.kept.items (run ++ rest) (after [] v)).1 (subst (λ (w : Verdict). M (old.kept.items ++ (run ++ rest)) w) (sym (after-nil v)) z))
     ready spends
 
-by_room : (old new : Framing) (p : Place) (n : ℕ) → p ≢ ReplyHead → new.room ≡ old.room
+by_room : (old new : Framing) (p : Phase) (n : ℕ) → p ≢ ReplyHead → new.room ≡ old.room
     → ((room : ℕ) → (n + work_at p room (length new.kept.items) ≤ work_at p room (length old.kept.items)) × (0 + room_at p room ≤ room_at p room))
     → (o : Option ℕ) → new.room ≡ o → SpendsBy o p (length old.kept.items) new.room p (length new.kept.items) n 0
 by_room old new p n np r spends None e = tt
@@ -133,24 +133,24 @@ run_length kept new run e = ap length e ∙ length-append kept run
 one_more : (kept new : List ℕ) (b : ℕ) → new ≡ kept ++ b ∷ [] → length new ≡ length kept + 1
 one_more kept new b e = run_length kept new (b ∷ []) e
 
-pub head_more : (old new : Framing) (run : List ℕ) → old.place ≡ Head → new.place ≡ Head → new.room ≡ old.room → new.kept.items ≡ old.kept.items ++ run
-    → IsOpenAt Head new.kept.items new.scan → Moves old new run []
+pub head_more : (old new : Framing) (run : List ℕ) → old.phase ≡ Head → new.phase ≡ Head → new.room ≡ old.room → new.kept.items ≡ old.kept.items ++ run
+    → IsOpenAt Head new.kept.items new.count → Moves old new run []
 head_more old new run a c r k ready =
     more_at old new run Head Asks a c k (λ room kept rest v. (λ x. x, λ x. x)) ready
-    (by_room old new Head (length run) (λ e. cc) r (λ room. (omega (arith, short_kept 66 new.kept.items new.scan ready.1, run_length old.kept.items new.kept.items run k), omega arith)) old.room r)
+    (by_room old new Head (length run) (λ e. cc) r (λ room. (omega (arith, short_kept 66 new.kept.items new.count ready.1, run_length old.kept.items new.kept.items run k), omega arith)) old.room r)
 
-pub reply_more : (old new : Framing) (run : List ℕ) → old.place ≡ ReplyHead → new.place ≡ ReplyHead → new.kept.items ≡ old.kept.items ++ run
-    → IsOpenAt ReplyHead new.kept.items new.scan → Moves old new run []
+pub reply_more : (old new : Framing) (run : List ℕ) → old.phase ≡ ReplyHead → new.phase ≡ ReplyHead → new.kept.items ≡ old.kept.items ++ run
+    → IsOpenAt ReplyHead new.kept.items new.count → Moves old new run []
 reply_more old new run a c k ready = more_at old new run ReplyHead Replies a c k (λ room kept rest v. (λ x. x, λ x. x)) ready tt
 
-pub trailer_more : (old new : Framing) (run : List ℕ) → old.place ≡ Trailing → new.place ≡ Trailing → new.room ≡ old.room → new.kept.items ≡ old.kept.items ++ run
-    → IsOpenAt Trailing new.kept.items new.scan → Moves old new run []
+pub trailer_more : (old new : Framing) (run : List ℕ) → old.phase ≡ Trailing → new.phase ≡ Trailing → new.room ≡ old.room → new.kept.items ≡ old.kept.items ++ run
+    → IsOpenAt Trailing new.kept.items new.count → Moves old new run []
 trailer_more old new run a c r k ready =
     more_at old new run Trailing Trailer a c k (λ room kept rest v. (λ x. x, λ x. x)) ready
-    (by_room old new Trailing (length run) (λ e. cc) r (λ room. (omega (arith, short_kept 65 new.kept.items new.scan ready.1, run_length old.kept.items new.kept.items run k), omega arith)) old.room r)
+    (by_room old new Trailing (length run) (λ e. cc) r (λ room. (omega (arith, short_kept 65 new.kept.items new.count ready.1, run_length old.kept.items new.kept.items run k), omega arith)) old.room r)
 
-pub line_more : (old new : Framing) (run : List ℕ) → old.place ≡ Line → new.place ≡ Line → new.room ≡ old.room → new.kept.items ≡ old.kept.items ++ run
-    → IsOpenAt Line new.kept.items new.scan → Moves old new run []
+pub line_more : (old new : Framing) (run : List ℕ) → old.phase ≡ Line → new.phase ≡ Line → new.room ≡ old.room → new.kept.items ≡ old.kept.items ++ run
+    → IsOpenAt Line new.kept.items new.count → Moves old new run []
 line_more old new run a c r k ready =
     move_at old new Line Line run [] a c
     (λ rest v x.
@@ -163,22 +163,22 @@ line_more old new run a c r k ready =
 -- ---- a head is found
 
 -- what a frame spends, from a head
-frame_spends : (old new : Framing) (room : Option ℕ) → old.place ≡ Head → room ≡ Some 1048576 → FrameSpends room new
-    → SpendsBy (limit_at old.place old.room) old.place (length old.kept.items) new.room new.place (length new.kept.items) 1 0
+frame_spends : (old new : Framing) (room : Option ℕ) → old.phase ≡ Head → room ≡ Some 1048576 → FrameSpends room new
+    → SpendsBy (limit_at old.phase old.room) old.phase (length old.kept.items) new.room new.phase (length new.kept.items) 1 0
 frame_spends old new room a is s =
-    subst (λ (p : Place). SpendsBy (limit_at p old.room) p (length old.kept.items) new.room new.place (length new.kept.items) 1 0) (sym a)
+    subst (λ (p : Phase). SpendsBy (limit_at p old.room) p (length old.kept.items) new.room new.phase (length new.kept.items) 1 0) (sym a)
     (from_room old.room (subst (λ (o : Option ℕ). FrameSpends o new) is s))
   where
-    weaker : (room : ℕ) (o : Option ℕ) (q : Place) (k : ℕ) → SpendsBy (Some 1048576) Head 16384 o q k 1 0 → SpendsBy (Some room) Head (length old.kept.items) o q k 1 0
+    weaker : (room : ℕ) (o : Option ℕ) (q : Phase) (k : ℕ) → SpendsBy (Some 1048576) Head 16384 o q k 1 0 → SpendsBy (Some room) Head (length old.kept.items) o q k 1 0
     weaker room None q k s = s
     weaker room (Some left) q k s = (let h = s.0 in omega arith, s.1, s.2)
 
-    from_room : (o : Option ℕ) → FrameSpends (Some 1048576) new → SpendsBy o Head (length old.kept.items) new.room new.place (length new.kept.items) 1 0
+    from_room : (o : Option ℕ) → FrameSpends (Some 1048576) new → SpendsBy o Head (length old.kept.items) new.room new.phase (length new.kept.items) 1 0
     from_room None s = tt
-    from_room (Some room) s = weaker room new.room new.place (length new.kept.items) s
+    from_room (Some room) s = weaker room new.room new.phase (length new.kept.items) s
 
 -- a found head leads to what its frame says
-found_at : (old new : Framing) (p : Place) (b : ℕ) (room : Option ℕ) (frame : Frame) (M : List ℕ → Verdict → Type 0) (bytes : List ℕ) → old.place ≡ p
+found_at : (old new : Framing) (p : Phase) (b : ℕ) (room : Option ℕ) (frame : Frame) (M : List ℕ → Verdict → Type 0) (bytes : List ℕ) → old.phase ≡ p
     → bytes ≡ old.kept.items ++ b ∷ []
     → ((rest : List ℕ) (v : Verdict) → M (old.kept.items ++ b ∷ rest) v → ReadsAt p old.room old.kept.items (b ∷ rest) v)
     → ((rest : List ℕ) (v : Verdict) → Frames room frame rest v → M (bytes ++ rest) v)
@@ -187,7 +187,7 @@ found_at : (old new : Framing) (p : Place) (b : ℕ) (room : Option ℕ) (frame 
 found_at old new p b room frame M bytes a k is reads spends (Ok u) f = record {
   reads = λ rest v x.
       let m : M (old.kept.items ++ b ∷ rest) v = subst (λ (l : List ℕ). M l v) (kept_rest old.kept.items bytes rest b k) (reads rest v (f.reads rest v x)) in
-      subst (λ (q : Place). ReadsAt q old.room old.kept.items (b ∷ rest) (after [] v)) (sym a)
+      subst (λ (q : Phase). ReadsAt q old.room old.kept.items (b ∷ rest) (after [] v)) (sym a)
       (is rest (after [] v) (subst (λ (w : Verdict). M (old.kept.items ++ b ∷ rest) w) (sym (after-nil v)) m));
   ready = f.ready;
   spends = spends f.spends;
@@ -197,7 +197,7 @@ found_at old new p b room frame M bytes a k is reads spends (Err (Refused e)) f 
     (λ rest. is rest (refused e) (subst (λ (l : List ℕ). M l (refused e)) (kept_rest old.kept.items bytes rest b k) (reads rest (refused e) (f rest))))
 found_at old new p b room frame M bytes a k is reads spends (Err NoMemory) f = tt
 
-pub head_found : (old new : Framing) (b : ℕ) (frame : Frame) (bytes : List ℕ) (h : RequestHead) → old.place ≡ Head → bytes ≡ old.kept.items ++ b ∷ []
+pub head_found : (old new : Framing) (b : ℕ) (frame : Frame) (bytes : List ℕ) (h : RequestHead) → old.phase ≡ Head → bytes ≡ old.kept.items ++ b ∷ []
     → HasHead ReadsRequest (λ (h : RequestHead). h.fields) 66 bytes h [] → frame ≡ ask_frame h
     → (r : Result Unit Stop) → Follows (Some 1048576) frame r new → StepsBy old (b ∷ []) r new
 head_found old new b frame bytes h a k x e r f =
@@ -206,17 +206,17 @@ head_found old new b frame bytes h a k x e r f =
     (subst (λ (q : Frame). Frames (Some 1048576) q rest v) e y))
     (λ s. frame_spends old new (Some 1048576) a refl s) r f
 
-pub reply_found : (old new : Framing) (b : ℕ) (frame : Frame) (bytes : List ℕ) (h : ResponseHead) → old.place ≡ ReplyHead → bytes ≡ old.kept.items ++ b ∷ []
+pub reply_found : (old new : Framing) (b : ℕ) (frame : Frame) (bytes : List ℕ) (h : ResponseHead) → old.phase ≡ ReplyHead → bytes ≡ old.kept.items ++ b ∷ []
     → HasHead ReadsResponse (λ (h : ResponseHead). h.fields) 66 bytes h [] → frame ≡ reply_frame h
     → (r : Result Unit Stop) → Follows None frame r new → StepsBy old (b ∷ []) r new
 reply_found old new b frame bytes h a k x e r f =
     found_at old new ReplyHead b None frame Replies bytes a k (λ rest v m. m)
     (λ rest v y. begins_found ReadsResponse (λ (h : ResponseHead). h.fields) 66 refusals.Head refusals.TooLargeHead (λ h. Frames None (reply_frame h)) bytes h rest v x
     (subst (λ (q : Frame). Frames None q rest v) e y))
-    (λ s. subst (λ (q : Place). SpendsBy (limit_at q old.room) q (length old.kept.items) new.room new.place (length new.kept.items) 1 0) (sym a) tt) r f
+    (λ s. subst (λ (q : Phase). SpendsBy (limit_at q old.room) q (length old.kept.items) new.room new.phase (length new.kept.items) 1 0) (sym a) tt) r f
 
-pub trailer_found : (old new : Framing) (b : ℕ) (bytes : List ℕ) (t : List Field × LineEnd) → old.place ≡ Trailing → new.place ≡ Whole → new.room ≡ old.room
-    → bytes ≡ old.kept.items ++ b ∷ [] → IsCounted 65 old.kept.items old.scan
+pub trailer_found : (old new : Framing) (b : ℕ) (bytes : List ℕ) (t : List Field × LineEnd) → old.phase ≡ Trailing → new.phase ≡ Whole → new.room ≡ old.room
+    → bytes ≡ old.kept.items ++ b ∷ [] → IsCounted 65 old.kept.items old.count
     → HasHead ReadsTrailer (λ t. t.0) 65 bytes t [] → Moves old new (b ∷ []) []
 trailer_found old new b bytes t a c r k counted x =
     move_at old new Trailing Whole (b ∷ []) [] a c
@@ -229,21 +229,21 @@ trailer_found old new b bytes t a c r k counted x =
     whole_spends None e = tt
     whole_spends (Some room) e =
         subst (λ (q : Option ℕ). SpendsBy (Some room) Trailing (length old.kept.items) q Whole (length new.kept.items) 1 0) (sym e)
-        (omega (arith, short_kept 65 old.kept.items old.scan counted), omega arith, λ q. cc)
+        (omega (arith, short_kept 65 old.kept.items old.count counted), omega arith, λ q. cc)
 
 -- ---- refusals of heads
 
-pub head_refused : (old : Framing) (b : ℕ) (bytes : List ℕ) (e : Refusal) → old.place ≡ Head → bytes ≡ old.kept.items ++ b ∷ []
+pub head_refused : (old : Framing) (b : ℕ) (bytes : List ℕ) (e : Refusal) → old.phase ≡ Head → bytes ≡ old.kept.items ++ b ∷ []
     → ((rest : List ℕ) → Asks (bytes ++ rest) (refused e)) → (rest : List ℕ) → Reads old (b ∷ rest) (refused e)
 head_refused old b bytes e a k x =
     refuse_at old Head (b ∷ []) e a (λ rest. subst (λ (l : List ℕ). Asks l (refused e)) (kept_rest old.kept.items bytes rest b k) (x rest))
 
-pub reply_refused : (old : Framing) (b : ℕ) (bytes : List ℕ) (e : Refusal) → old.place ≡ ReplyHead → bytes ≡ old.kept.items ++ b ∷ []
+pub reply_refused : (old : Framing) (b : ℕ) (bytes : List ℕ) (e : Refusal) → old.phase ≡ ReplyHead → bytes ≡ old.kept.items ++ b ∷ []
     → ((rest : List ℕ) → Replies (bytes ++ rest) (refused e)) → (rest : List ℕ) → Reads old (b ∷ rest) (refused e)
 reply_refused old b bytes e a k x =
     refuse_at old ReplyHead (b ∷ []) e a (λ rest. subst (λ (l : List ℕ). Replies l (refused e)) (kept_rest old.kept.items bytes rest b k) (x rest))
 
-pub trailer_refused : (old : Framing) (b : ℕ) (bytes : List ℕ) (e : Refusal) → old.place ≡ Trailing → bytes ≡ old.kept.items ++ b ∷ []
+pub trailer_refused : (old : Framing) (b : ℕ) (bytes : List ℕ) (e : Refusal) → old.phase ≡ Trailing → bytes ≡ old.kept.items ++ b ∷ []
     → ((rest : List ℕ) → Trailer (bytes ++ rest) (refused e)) → (rest : List ℕ) → Reads old (b ∷ rest) (refused e)
 trailer_refused old b bytes e a k x =
     refuse_at old Trailing (b ∷ []) e a (λ rest. subst (λ (l : List ℕ). Trailer l (refused e)) (kept_rest old.kept.items bytes rest b k) (x rest))
@@ -276,24 +276,24 @@ line_reads bytes rest l size room v x e le s =
           (subst (λ (n : ℕ). Sized (ReadsLines m.0) room n rest v) e m.1);
     }
 
-line_within : (kept : ℕ) → kept < 256 → (room : ℕ) (o : Option ℕ) (q : Place) (k : ℕ) → SpendsBy (Some room) Line 255 o q k 1 0 → SpendsBy (Some room) Line kept o q k 1 0
+line_within : (kept : ℕ) → kept < 256 → (room : ℕ) (o : Option ℕ) (q : Phase) (k : ℕ) → SpendsBy (Some room) Line 255 o q k 1 0 → SpendsBy (Some room) Line kept o q k 1 0
 line_within kept lt room None q k s = s
 line_within kept lt room (Some left) q k s = (let h = s.0 in omega (arith, lt), s.1, s.2)
 
-line_weaker : (kept : ℕ) → kept < 256 → (o : Option ℕ) (new : Framing) (size : ℕ) → SizedSpends o size new → SpendsBy o Line kept new.room new.place (length new.kept.items) 1 0
+line_weaker : (kept : ℕ) → kept < 256 → (o : Option ℕ) (new : Framing) (size : ℕ) → SizedSpends o size new → SpendsBy o Line kept new.room new.phase (length new.kept.items) 1 0
 line_weaker kept lt None new size s = tt
-line_weaker kept lt (Some room) new size s = line_within kept lt room new.room new.place (length new.kept.items) s
+line_weaker kept lt (Some room) new size s = line_within kept lt room new.room new.phase (length new.kept.items) s
 
-pub line_sized : (old new : Framing) (b : ℕ) (bytes : List ℕ) (l : ChunkLine) (size : ℕ) → old.place ≡ Line → bytes ≡ old.kept.items ++ b ∷ [] → length old.kept.items < 256
+pub line_sized : (old new : Framing) (b : ℕ) (bytes : List ℕ) (l : ChunkLine) (size : ℕ) → old.phase ≡ Line → bytes ≡ old.kept.items ++ b ∷ [] → length old.kept.items < 256
     → ReadsChunkLine bytes l [] → size ≡ chunk_size l → (r : Result Unit Stop) → Enters old.room size r new → StepsBy old (b ∷ []) r new
 line_sized old new b bytes l size a k lt x e (Ok u) f = record {
   reads = λ rest v y.
       let m : Chunks old.room (bytes ++ rest) v = line_reads bytes rest l size old.room v x e (omega (arith, lt, one_more old.kept.items bytes b k)) (f.reads rest v y) in
       let n : Chunks old.room (old.kept.items ++ b ∷ rest) v = subst (λ (q : List ℕ). Chunks old.room q v) (kept_rest old.kept.items bytes rest b k) m in
-      subst (λ (q : Place). ReadsAt q old.room old.kept.items (b ∷ rest) (after [] v)) (sym a)
+      subst (λ (q : Phase). ReadsAt q old.room old.kept.items (b ∷ rest) (after [] v)) (sym a)
       (subst (λ (w : Verdict). Chunks old.room (old.kept.items ++ b ∷ rest) w) (sym (after-nil v)) n);
   ready = f.ready;
-  spends = subst (λ (q : Place). SpendsBy (limit_at q old.room) q (length old.kept.items) new.room new.place (length new.kept.items) 1 0) (sym a)
+  spends = subst (λ (q : Phase). SpendsBy (limit_at q old.room) q (length old.kept.items) new.room new.phase (length new.kept.items) 1 0) (sym a)
       (line_weaker (length old.kept.items) lt old.room new size f.spends);
 }
 line_sized old new b bytes l size a k lt x e (Err (Refused q)) f =
@@ -302,7 +302,7 @@ line_sized old new b bytes l size a k lt x e (Err (Refused q)) f =
     (line_reads bytes rest l size old.room (refused q) x e (omega (arith, lt, one_more old.kept.items bytes b k)) (f rest)))
 line_sized old new b bytes l size a k lt x e (Err NoMemory) f = tt
 
-pub line_wrong : (old : Framing) (b : ℕ) (bytes : List ℕ) → old.place ≡ Line → bytes ≡ old.kept.items ++ b ∷ [] → b ≡ 10 → length old.kept.items < 256 → has_no_feed old.kept.items ≡ true
+pub line_wrong : (old : Framing) (b : ℕ) (bytes : List ℕ) → old.phase ≡ Line → bytes ≡ old.kept.items ++ b ∷ [] → b ≡ 10 → length old.kept.items < 256 → has_no_feed old.kept.items ≡ true
     → ((l : ChunkLine) → ¬ (ReadsChunkLine bytes l [])) → (rest : List ℕ) → Reads old (b ∷ rest) (refused refusals.Chunk)
 line_wrong old b bytes a k ten lt plain never =
     refuse_at old Line (b ∷ []) refusals.Chunk a
@@ -318,7 +318,7 @@ test_of_ne a b h = grind (arith, nat_tests)
 no_feed_more : (kept : List ℕ) (b : ℕ) → has_no_feed kept ≡ true → (b == 10) ≡ false → has_no_feed (kept ++ b ∷ []) ≡ true
 no_feed_more kept b plain e = no_feed_append kept (b ∷ []) plain (λ i. not (e i) && true)
 
-pub line_long : (old : Framing) (b : ℕ) (bytes : List ℕ) → old.place ≡ Line → bytes ≡ old.kept.items ++ b ∷ [] → (b ≡ 10 → ⊥) → length bytes ≡ 256 → has_no_feed old.kept.items ≡ true
+pub line_long : (old : Framing) (b : ℕ) (bytes : List ℕ) → old.phase ≡ Line → bytes ≡ old.kept.items ++ b ∷ [] → (b ≡ 10 → ⊥) → length bytes ≡ 256 → has_no_feed old.kept.items ≡ true
     → (rest : List ℕ) → Reads old (b ∷ rest) (refused refusals.Chunk)
 line_long old b bytes a k ten limit plain =
     refuse_at old Line (b ∷ []) refusals.Chunk a
@@ -328,21 +328,21 @@ line_long old b bytes a k ten limit plain =
     })
 
 -- a chunk line that is not all there
-pub line_open : (old new : Framing) (b : ℕ) → old.place ≡ Line → new.place ≡ Line → new.room ≡ old.room → new.kept.items ≡ old.kept.items ++ b ∷ [] → (b ≡ 10 → ⊥)
+pub line_open : (old new : Framing) (b : ℕ) → old.phase ≡ Line → new.phase ≡ Line → new.room ≡ old.room → new.kept.items ≡ old.kept.items ++ b ∷ [] → (b ≡ 10 → ⊥)
     → length old.kept.items < 256 → has_no_feed old.kept.items ≡ true → (length new.kept.items ≡ 256 → ⊥) → Moves old new (b ∷ []) []
 line_open old new b a c r k ten lt plain unfull =
     line_more old new (b ∷ []) a c r k (omega (arith, lt, one_more old.kept.items new.kept.items b k, unfull), ap has_no_feed k ∙ no_feed_more old.kept.items b plain (test_of_ne b 10 ten))
 
 -- ---- the line end behind a chunk
 
-same_room_spends : (old new : Framing) (p q : Place) → q ≢ ReplyHead → new.room ≡ old.room
+same_room_spends : (old new : Framing) (p q : Phase) → q ≢ ReplyHead → new.room ≡ old.room
     → ((room : ℕ) → (1 + work_at q room (length new.kept.items) ≤ work_at p room (length old.kept.items)) × (0 + room_at q room ≤ room_at p room))
     → (o : Option ℕ) → new.room ≡ o → SpendsBy o p (length old.kept.items) new.room q (length new.kept.items) 1 0
 same_room_spends old new p q nq r spends None e = tt
 same_room_spends old new p q nq r spends (Some room) e =
     subst (λ (o : Option ℕ). SpendsBy (Some room) p (length old.kept.items) o q (length new.kept.items) 1 0) (sym e) (let w = spends room in (w.0, w.1, nq))
 
-pub return_comes : (old new : Framing) (b : ℕ) → old.place ≡ Return false → new.place ≡ Return true → new.room ≡ old.room → b ≡ 13 → Moves old new (b ∷ []) []
+pub return_comes : (old new : Framing) (b : ℕ) → old.phase ≡ Return false → new.phase ≡ Return true → new.room ≡ old.room → b ≡ 13 → Moves old new (b ∷ []) []
 return_comes old new b a c r e =
     move_at old new (Return false) (Return true) (b ∷ []) [] a c
     (λ rest v x.
@@ -350,7 +350,7 @@ return_comes old new b a c r e =
     (subst (λ (n : ℕ). EndsChunk (Chunks old.room) (n ∷ rest) v) (sym e) (subst (λ (o : Option ℕ). EndsChunk (Chunks o) (13 ∷ rest) v) r x)))
     tt (same_room_spends old new (Return false) (Return true) (λ q. cc) r (λ room. (omega arith, omega arith)) old.room r)
 
-pub feed_comes : (old new : Framing) (b : ℕ) → old.place ≡ Return true → new.place ≡ Line → new.room ≡ old.room → new.kept.items ≡ [] → b ≡ 10 → Moves old new (b ∷ []) []
+pub feed_comes : (old new : Framing) (b : ℕ) → old.phase ≡ Return true → new.phase ≡ Line → new.room ≡ old.room → new.kept.items ≡ [] → b ≡ 10 → Moves old new (b ∷ []) []
 feed_comes old new b a c r k e =
     move_at old new (Return true) Line (b ∷ []) [] a c
     (λ rest v x.
@@ -389,23 +389,23 @@ chunk_spends old new left n le r (Some room) e =
     subst (λ (o : Option ℕ). SpendsBy (Some room) (Data left) (length old.kept.items) o (chunk_left (left - n)) (length new.kept.items) n n) (sym e)
     (omega (arith, w.0, le), omega (arith, w.1, le), not_chunk (left - n))
 
-pub content_taken : (old new : Framing) (left n : ℕ) (front : List ℕ) → old.place ≡ Content left → new.place ≡ content_left (left - n) → new.room ≡ old.room
+pub content_taken : (old new : Framing) (left n : ℕ) (front : List ℕ) → old.phase ≡ Content left → new.phase ≡ content_left (left - n) → new.room ≡ old.room
     → length front ≡ n → n ≤ left → Moves old new front front
 content_taken old new left n front a c r l le =
     move_at old new (Content left) (content_left (left - n)) front front a c
     (λ rest v x. takes_more left n EndsHere front rest v l le (content_reads (left - n) new.room new.kept.items rest v x))
-    (content_open (left - n) new.kept.items new.scan)
+    (content_open (left - n) new.kept.items new.count)
     (subst (λ (k : ℕ). SpendsBy old.room (Content left) (length old.kept.items) new.room (content_left (left - n)) (length new.kept.items) k k) (sym l)
     (content_spends old new left n le r old.room r))
 
-pub chunk_taken : (old new : Framing) (left n : ℕ) (front : List ℕ) → old.place ≡ Data left → new.place ≡ chunk_left (left - n) → new.room ≡ old.room
+pub chunk_taken : (old new : Framing) (left n : ℕ) (front : List ℕ) → old.phase ≡ Data left → new.phase ≡ chunk_left (left - n) → new.room ≡ old.room
     → length front ≡ n → n ≤ left → Moves old new front front
 chunk_taken old new left n front a c r l le =
     move_at old new (Data left) (chunk_left (left - n)) front front a c
     (λ rest v x.
     takes_more left n (EndsChunk (Chunks old.room)) front rest v l le
     (subst (λ (o : Option ℕ). Takes (left - n) (EndsChunk (Chunks o)) rest v) r (chunk_reads (left - n) new.room new.kept.items rest v x)))
-    (chunk_open (left - n) new.kept.items new.scan)
+    (chunk_open (left - n) new.kept.items new.count)
     (subst (λ (k : ℕ). SpendsBy old.room (Data left) (length old.kept.items) new.room (chunk_left (left - n)) (length new.kept.items) k k) (sym l)
     (chunk_spends old new left n le r old.room r))
 

@@ -6,7 +6,7 @@ pub mod Heads
 pub mod Laws
 pub mod Machine
 pub mod Outcomes
-pub mod Scanned
+pub mod LineCounts
 pub mod Replying
 pub mod Responses
 pub mod Serving

@@ -1,8 +1,8 @@
 -- Where the machine stands, by how it reads what is still to come.
 use Rattle.std.specs.Prelude.{◌≢◌, ◌≡◌, ◌==◌, if◌then◌else◌, ℕ, ◌+◌, ◌-◌, ◌*◌, ◌<◌, ◌≤◌, Bool, true, false, List, [], ◌∷◌, ◌++◌, length, take, Option, Some, None, Result, Ok, Err}
 use Rattle.httparse.specs.Grammar.{RequestHead, ReadsRequest, ResponseHead, ReadsResponse}
-use Rattle.ojp_http.specs.declared.machine.Place.{Place}
-use Rattle.ojp_http.specs.declared.machine.Place.TheVariants.{Head, ReplyHead, Content, Line, Data, Return, Trailing, Whole}
+use Rattle.ojp_http.specs.declared.machine.Phase.{Phase}
+use Rattle.ojp_http.specs.declared.machine.Phase.TheVariants.{Head, ReplyHead, Content, Line, Data, Return, Trailing, Whole}
 use Rattle.ojp_http.specs.declared.machine.Framing.{Framing}
 use Rattle.ojp_http.specs.declared.machine.Stop.{Stop}
 use Rattle.ojp_http.specs.declared.machine.Stop.TheVariants.{Refused, NoMemory}
@@ -10,25 +10,25 @@ use Rattle.ojp_http.specs.declared.refusal.Refusal.{Refusal}
 use Rattle.ojp_http.specs.declared.refusal.Frame.{Frame}
 use Rattle.ojp_http.specs.declared.refusal.Frame.TheVariants.{Counted, Chunked}
 use Rattle.ojp_http.specs.declared.refusal.Frame.TheVariants as frames
-use Rattle.ojp_http.specs.declared.scan.Scan.{Scan}
+use Rattle.ojp_http.specs.declared.count.LineCount.{LineCount}
 use Rattle.ojp_http.specs.Verdicts.{Verdict, refused, after}
 use Rattle.ojp_http.specs.Heads.{HasNoHead, IsFull}
-use Rattle.ojp_http.specs.Scanned.{no_lines, scan_from}
+use Rattle.ojp_http.specs.LineCounts.{no_lines, count_from}
 use Rattle.ojp_http.specs.Bodies.{EndsHere, Takes, EndsChunk, Chunks, Trailer, ReadsTrailer, Asks, Replies, Sized, has_no_feed, Frames}
 
--- the place in a body, or in a chunk, that lacks so many bytes
-abbrev pub content_left : ℕ → Place
+-- the phase in a body, or in a chunk, that lacks so many bytes
+abbrev pub content_left : ℕ → Phase
 content_left left = if left == 0 then Whole else Content left
 
-abbrev pub chunk_left : ℕ → Place
+abbrev pub chunk_left : ℕ → Phase
 chunk_left left = if left == 0 then Return false else Data left
 
 -- what a chunk line's size asks for
-abbrev pub chunk_start : ℕ → Place
+abbrev pub chunk_start : ℕ → Phase
 chunk_start size = if size == 0 then Trailing else Data size
 
--- how the rest reads from a place
-abbrev pub ReadsAt : Place → Option ℕ → List ℕ → List ℕ → Verdict → Type 0
+-- how the rest reads from a phase
+abbrev pub ReadsAt : Phase → Option ℕ → List ℕ → List ℕ → Verdict → Type 0
 ReadsAt Head room kept rest v = Asks (kept ++ rest) v
 ReadsAt ReplyHead room kept rest v = Replies (kept ++ rest) v
 ReadsAt (Content left) room kept rest v = Takes left EndsHere rest v
@@ -40,29 +40,29 @@ ReadsAt Trailing room kept rest v = Trailer (kept ++ rest) v
 ReadsAt Whole room kept rest v = EndsHere rest v
 
 abbrev pub Reads : Framing → List ℕ → Verdict → Type 0
-Reads f rest v = ReadsAt f.place f.room f.kept.items rest v
+Reads f rest v = ReadsAt f.phase f.room f.kept.items rest v
 
 -- the lines of the kept bytes were counted, and the bytes are not full
-pub record IsCounted (most : ℕ) (kept : List ℕ) (scan : Scan) : Type 0 where
-  pub lines : scan ≡ scan_from no_lines kept
+pub record IsCounted (most : ℕ) (kept : List ℕ) (count : LineCount) : Type 0 where
+  pub lines : count ≡ count_from no_lines kept
   pub unfull : ¬ (IsFull most kept)
 
 -- nothing was decided yet
-abbrev pub IsOpenAt : Place → List ℕ → Scan → Type 0
-IsOpenAt Head kept scan = HasNoHead ReadsRequest (λ (h : RequestHead). h.fields) 66 kept × IsCounted 66 kept scan
-IsOpenAt ReplyHead kept scan = HasNoHead ReadsResponse (λ (h : ResponseHead). h.fields) 66 kept × IsCounted 66 kept scan
-IsOpenAt (Content left) kept scan = 0 < left
-IsOpenAt Line kept scan = (length kept < 256) × (has_no_feed kept ≡ true)
-IsOpenAt (Data left) kept scan = 0 < left
-IsOpenAt (Return has_return) kept scan = Unit {0}
-IsOpenAt Trailing kept scan = HasNoHead ReadsTrailer (λ t. t.0) 65 kept × IsCounted 65 kept scan
-IsOpenAt Whole kept scan = Unit {0}
+abbrev pub IsOpenAt : Phase → List ℕ → LineCount → Type 0
+IsOpenAt Head kept count = HasNoHead ReadsRequest (λ (h : RequestHead). h.fields) 66 kept × IsCounted 66 kept count
+IsOpenAt ReplyHead kept count = HasNoHead ReadsResponse (λ (h : ResponseHead). h.fields) 66 kept × IsCounted 66 kept count
+IsOpenAt (Content left) kept count = 0 < left
+IsOpenAt Line kept count = (length kept < 256) × (has_no_feed kept ≡ true)
+IsOpenAt (Data left) kept count = 0 < left
+IsOpenAt (Return has_return) kept count = Unit {0}
+IsOpenAt Trailing kept count = HasNoHead ReadsTrailer (λ t. t.0) 65 kept × IsCounted 65 kept count
+IsOpenAt Whole kept count = Unit {0}
 
 abbrev pub IsOpen : Framing → Type 0
-IsOpen f = IsOpenAt f.place f.kept.items f.scan
+IsOpen f = IsOpenAt f.phase f.kept.items f.count
 
 -- the message is whole
-abbrev pub is_whole_at : Place → Bool
+abbrev pub is_whole_at : Phase → Bool
 is_whole_at Head = false
 is_whole_at ReplyHead = false
 is_whole_at (Content left) = false
@@ -73,7 +73,7 @@ is_whole_at Trailing = false
 is_whole_at Whole = true
 
 -- how many bytes fill what is kept of a head, of a chunk line or of a trailer
-abbrev pub most_kept_at : Place → ℕ
+abbrev pub most_kept_at : Phase → ℕ
 most_kept_at Head = 16384
 most_kept_at ReplyHead = 16384
 most_kept_at (Content left) = 0
@@ -95,7 +95,7 @@ one_of (Ok u) = Ok 1
 one_of (Err stop) = Err stop
 
 -- the most bytes that may still be taken, where the chunks to come sum up to at most the room
-abbrev pub work_at : Place → ℕ → ℕ → ℕ
+abbrev pub work_at : Phase → ℕ → ℕ → ℕ
 work_at Head room kept = (16384 - kept) + 272646403
 work_at ReplyHead room kept = 0
 work_at (Content left) room kept = left
@@ -107,7 +107,7 @@ work_at Trailing room kept = 16385 - kept
 work_at Whole room kept = 0
 
 -- the most bytes of the body that may still come
-abbrev pub room_at : Place → ℕ → ℕ
+abbrev pub room_at : Phase → ℕ → ℕ
 room_at Head room = 1048576
 room_at ReplyHead room = 0
 room_at (Content left) room = left
@@ -118,14 +118,14 @@ room_at Trailing room = 0
 room_at Whole room = 0
 
 -- so many bytes were taken, and so many of the body gained; nothing is said where there is no limit
-abbrev pub SpendsBy : Option ℕ → Place → ℕ → Option ℕ → Place → ℕ → ℕ → ℕ → Type 0
-SpendsBy None place kept room' place' kept' taken gained = Unit {0}
-SpendsBy (Some room) place kept None place' kept' taken gained = ⊥
-SpendsBy (Some room) place kept (Some room') place' kept' taken gained =
-    (taken + work_at place' room' kept' ≤ work_at place room kept) × (gained + room_at place' room' ≤ room_at place room) × (place' ≢ ReplyHead)
+abbrev pub SpendsBy : Option ℕ → Phase → ℕ → Option ℕ → Phase → ℕ → ℕ → ℕ → Type 0
+SpendsBy None phase kept room' phase' kept' taken gained = Unit {0}
+SpendsBy (Some room) phase kept None phase' kept' taken gained = ⊥
+SpendsBy (Some room) phase kept (Some room') phase' kept' taken gained =
+    (taken + work_at phase' room' kept' ≤ work_at phase room kept) × (gained + room_at phase' room' ≤ room_at phase room) × (phase' ≢ ReplyHead)
 
 -- replies have no limit
-abbrev pub limit_at : Place → Option ℕ → Option ℕ
+abbrev pub limit_at : Phase → Option ℕ → Option ℕ
 limit_at ReplyHead room = None
 limit_at Head room = room
 limit_at (Content left) room = room
@@ -136,7 +136,7 @@ limit_at Trailing room = room
 limit_at Whole room = room
 
 abbrev pub Spends : Framing → Framing → ℕ → ℕ → Type 0
-Spends old new taken gained = SpendsBy (limit_at old.place old.room) old.place (length old.kept.items) new.room new.place (length new.kept.items) taken gained
+Spends old new taken gained = SpendsBy (limit_at old.phase old.room) old.phase (length old.kept.items) new.room new.phase (length new.kept.items) taken gained
 
 -- some bytes were taken, and these of the body gained: however the rest reads now, it read so before
 pub record Moves (old new : Framing) (taken gained : List ℕ) : Type 0 where
@@ -153,7 +153,7 @@ StepsBy old taken (Err NoMemory) new = Unit {0}
 -- the most bytes that may be taken for what a size asks for, and of the body
 abbrev pub SizedSpends : Option ℕ → ℕ → Framing → Type 0
 SizedSpends None size new = Unit {0}
-SizedSpends (Some room) size new = SpendsBy (Some room) Line 255 new.room new.place (length new.kept.items) 1 0
+SizedSpends (Some room) size new = SpendsBy (Some room) Line 255 new.room new.phase (length new.kept.items) 1 0
 
 -- however the rest reads now, it is what the size asks for
 pub record Begins (room : Option ℕ) (size : ℕ) (new : Framing) : Type 0 where
@@ -181,7 +181,7 @@ IsBounded (Some room) frame = (room ≡ 1048576) × IsCountedBy 1048576 frame
 -- a body takes less than its head leaves, and has at most the limit
 abbrev pub FrameSpends : Option ℕ → Framing → Type 0
 FrameSpends None new = Unit {0}
-FrameSpends (Some room) new = SpendsBy (Some room) Head 16384 new.room new.place (length new.kept.items) 1 0
+FrameSpends (Some room) new = SpendsBy (Some room) Head 16384 new.room new.phase (length new.kept.items) 1 0
 
 -- however the rest reads now, it is a body in this frame
 pub record FollowsFrame (room : Option ℕ) (frame : Frame) (new : Framing) : Type 0 where
@@ -222,7 +222,7 @@ pub record Goes (old new : Framing) (piece before got : List ℕ) (used : ℕ) :
 -- all of it where the message is not whole
 pub record Took (old new : Framing) (piece before got : List ℕ) (used : ℕ) : Type 0 where
   pub goes : Goes old new piece before got used
-  pub all : new.place ≢ Whole → used ≡ length piece
+  pub all : new.phase ≢ Whole → used ≡ length piece
 
 -- some bytes of the body came behind those before
 abbrev pub Gains : List ℕ → List ℕ → Type 0
@@ -237,10 +237,10 @@ Feeds old piece before (Err NoMemory) new got = Gains before got
 pub record IsNewRequest (f : Framing) : Type 0 where
   pub reads : (rest : List ℕ) (v : Verdict) → Reads f rest v → Asks rest v
   pub ready : IsOpen f
-  pub unfinished : f.place ≢ Whole
+  pub unfinished : f.phase ≢ Whole
 
 -- the machine before the first byte of a reply
 pub record IsNewReply (f : Framing) : Type 0 where
   pub reads : (rest : List ℕ) (v : Verdict) → Reads f rest v → Replies rest v
   pub ready : IsOpen f
-  pub unfinished : f.place ≢ Whole
+  pub unfinished : f.phase ≢ Whole

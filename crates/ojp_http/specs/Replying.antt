@@ -10,32 +10,32 @@ use Rattle.ojp_http.specs.declared.fed.Stage.TheVariants.{Reading, Whole, Over}
 use Rattle.ojp_http.specs.declared.reply.State.{State}
 use Rattle.ojp_http.specs.declared.reply.State.TheVariants as states
 use Rattle.ojp_http.specs.declared.machine.Framing.{Framing}
-use Rattle.ojp_http.specs.declared.machine.Place.{Place}
-use Rattle.ojp_http.specs.declared.machine.Place.TheVariants as places
+use Rattle.ojp_http.specs.declared.machine.Phase.{Phase}
+use Rattle.ojp_http.specs.declared.machine.Phase.TheVariants as phases
 use Rattle.ojp_http.specs.declared.machine.Stop.{Stop}
 use Rattle.ojp_http.specs.declared.machine.Stop.TheVariants.{Refused, NoMemory}
-use Rattle.ojp_http.specs.declared.scan.Scan.{Scan}
+use Rattle.ojp_http.specs.declared.count.LineCount.{LineCount}
 use Rattle.ojp_http.specs.Verdicts.{Verdict, refused, cut, after}
 use Rattle.ojp_http.specs.Bodies.{Replies}
 use Rattle.ojp_http.specs.Asking.{HttpReply}
 use Rattle.ojp_http.specs.Machine.{ReadsAt, IsOpenAt, IsOpen, is_whole_at, Gains}
-use Rattle.ojp_http.specs.Scanned.{no_lines}
+use Rattle.ojp_http.specs.LineCounts.{no_lines}
 
 -- a reply that is read: its stage, and where its framing stands
 pub record ReplyView : Type 0 where
   pub stage : Stage
-  pub place : Place
+  pub phase : Phase
   pub room : Option ℕ
   pub kept : List ℕ
-  pub scan : Scan
+  pub count : LineCount
 
 -- a reply that is framed, as it is seen
 abbrev pub framed : Framing → ReplyView
-framed f = record { stage = Reading; place = f.place; room = f.room; kept = f.kept.items; scan = f.scan }
+framed f = record { stage = Reading; phase = f.phase; room = f.room; kept = f.kept.items; count = f.count }
 
 -- a reply of which no more is read, as it is seen
 abbrev pub ended : Stage → ReplyView
-ended stage = record { stage = stage; place = places.Whole; room = None; kept = []; scan = no_lines }
+ended stage = record { stage = stage; phase = phases.Whole; room = None; kept = []; count = no_lines }
 
 -- a reply, as it is seen
 abbrev pub seen_as : State → ReplyView
@@ -45,9 +45,9 @@ seen_as (states.Over e) = ended (Over e)
 
 -- these bytes were taken, and these of the body gained: however the rest reads, it read so
 pub record HasTaken (r : ReplyView) (bytes got : List ℕ) : Type 0 where
-  pub reads : (rest : List ℕ) (v : Verdict) → ReadsAt r.place r.room r.kept rest v → Replies (bytes ++ rest) (after got v)
-  pub ready : IsOpenAt r.place r.kept r.scan
-  pub unfinished : is_whole_at r.place ≡ false
+  pub reads : (rest : List ℕ) (v : Verdict) → ReadsAt r.phase r.room r.kept rest v → Replies (bytes ++ rest) (after got v)
+  pub ready : IsOpenAt r.phase r.kept r.count
+  pub unfinished : is_whole_at r.phase ≡ false
 
 -- what was fed, with the bytes of the body in it
 abbrev pub HasFedAt : Stage → ReplyView → List ℕ → List ℕ → Type 0
@@ -60,7 +60,7 @@ HasFed r bytes got = HasFedAt r.stage r bytes got
 
 -- the machine is in order while it reads
 abbrev pub IsSoundIn : State → Type 0
-IsSoundIn (states.Reading f) = IsOpen f × (is_whole_at f.place ≡ false)
+IsSoundIn (states.Reading f) = IsOpen f × (is_whole_at f.phase ≡ false)
 IsSoundIn states.Whole = Unit {0}
 IsSoundIn (states.Over e) = Unit {0}
 

@@ -7,11 +7,11 @@ ghost use Rattle.httparse.specs.Grammar.{ReadsRequest, RequestHead, ReadsRespons
 ghost use Rattle.ojp_http.specs.Bodies.{ReadsTrailer};
 ghost use Rattle.ojp_http.specs.Fields.{ask_frame as frame_of_request, reply_frame as frame_of_response};
 ghost use Rattle.ojp_http.specs.Outcomes.{HasGrown, Decides, EndsIn, decided_by};
-ghost use Rattle.ojp_http.specs.Scanned.{no_lines, scan_from};
+ghost use Rattle.ojp_http.specs.LineCounts.{no_lines, count_from};
 
+use crate::count::LineCount;
 use crate::fields::{ask_frame, reply_frame};
 use crate::refusal::{Frame, Refusal};
-use crate::scan::Scan;
 use httparse::spans::{EMPTY_HEADER_SPAN, parse_headers, parse_request, parse_response};
 use httparse::{Error, Result as Parsed, Status};
 
@@ -46,13 +46,13 @@ fn decided<H>(
 }
 
 /// The frame of the request with this head, a refusal, or nothing where no more is decided.
-pub fn request_frame(bytes: &[u8], scan: Scan) -> Result<Option<Frame>, Refusal>
+pub fn request_frame(bytes: &[u8], count: LineCount) -> Result<Option<Frame>, Refusal>
     requires grown { HasGrown ReadsRequest (λ (h : RequestHead). h.fields) 66 bytes.now }
-    requires scanned { scan ≡ scan_from no_lines bytes.now }
+    requires counted { count ≡ count_from no_lines bytes.now }
     ensures { Decides ReadsRequest (λ (h : RequestHead). h.fields) 66 Refusal.Head Refusal.TooLargeHead frame_of_request bytes.now result }
 {
-    let is_full = scan.is_full(HEAD_LINES, bytes.len());
-    if !is_full && !scan.has_empty {
+    let is_full = count.is_full(HEAD_LINES, bytes.len());
+    if !is_full && !count.has_empty {
         return Ok(None);
     }
     let mut headers = [EMPTY_HEADER_SPAN; FIELD_LIMIT];
@@ -71,13 +71,13 @@ pub fn request_frame(bytes: &[u8], scan: Scan) -> Result<Option<Frame>, Refusal>
 }
 
 /// The frame of the reply with this head, a refusal, or nothing where no more is decided.
-pub fn response_frame(bytes: &[u8], scan: Scan) -> Result<Option<Frame>, Refusal>
+pub fn response_frame(bytes: &[u8], count: LineCount) -> Result<Option<Frame>, Refusal>
     requires grown { HasGrown ReadsResponse (λ (h : ResponseHead). h.fields) 66 bytes.now }
-    requires scanned { scan ≡ scan_from no_lines bytes.now }
+    requires counted { count ≡ count_from no_lines bytes.now }
     ensures { Decides ReadsResponse (λ (h : ResponseHead). h.fields) 66 Refusal.Head Refusal.TooLargeHead frame_of_response bytes.now result }
 {
-    let is_full = scan.is_full(HEAD_LINES, bytes.len());
-    if !is_full && !scan.has_empty {
+    let is_full = count.is_full(HEAD_LINES, bytes.len());
+    if !is_full && !count.has_empty {
         return Ok(None);
     }
     let mut headers = [EMPTY_HEADER_SPAN; FIELD_LIMIT];
@@ -96,13 +96,13 @@ pub fn response_frame(bytes: &[u8], scan: Scan) -> Result<Option<Frame>, Refusal
 
 /// Whether a trailer is there, which may be its last empty line alone, a refusal, or nothing where no
 /// more is decided.
-pub fn trailer_end(bytes: &[u8], newest: u8, scan: Scan) -> Result<Option<()>, Refusal>
+pub fn trailer_end(bytes: &[u8], newest: u8, count: LineCount) -> Result<Option<()>, Refusal>
     requires grown { HasGrown ReadsTrailer (λ t. t.0) 65 bytes.now }
     requires newest { EndsIn newest bytes.now }
-    requires scanned { scan ≡ scan_from no_lines bytes.now }
+    requires counted { count ≡ count_from no_lines bytes.now }
     ensures { Decides ReadsTrailer (λ t. t.0) 65 Refusal.Chunk Refusal.Chunk (λ t. tt) bytes.now result }
 {
-    let is_full = scan.is_full(TRAILER_LINES, bytes.len());
+    let is_full = count.is_full(TRAILER_LINES, bytes.len());
     if !is_full && newest != b'\n' {
         return Ok(None);
     }

@@ -4,6 +4,7 @@
 
 mod answer;
 mod ask;
+mod count;
 mod fed;
 mod fields;
 mod head;
@@ -11,7 +12,6 @@ pub mod laws;
 mod machine;
 mod refusal;
 mod reply;
-mod scan;
 mod served;
 
 pub use answer::{write_no_memory, write_refusal, write_response, write_response_head};

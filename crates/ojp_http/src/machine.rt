@@ -4,13 +4,13 @@ ghost use Rattle.std.specs.Prelude.{◌≡◌, ◌≢◌, ◌++◌, ◌∷◌, [
 ghost use Rattle.ojp_http.specs.Machine.{IsOpen, IsNewRequest, IsRun, IsNewReply, StepsBy, Enters, Follows, IsBounded, Steps, Feeds, content_left, chunk_left, chunk_start, is_whole_at, most_kept_at, one_of};
 ghost use Rattle.ojp_http.specs.Bodies.{room_after, IsAbove};
 ghost use Rattle.ojp_http.specs.ChunkLines.{EndsLine, IsLineSize};
-ghost use Rattle.ojp_http.specs.Scanned.{no_lines, scan_step};
-ghost use Rattle.ojp_http.specs.declared.machine.Place.TheVariants.{Head, ReplyHead, Content, Line, Data, Return, Trailing, Whole};
+ghost use Rattle.ojp_http.specs.LineCounts.{no_lines, count_step};
+ghost use Rattle.ojp_http.specs.declared.machine.Phase.TheVariants.{Head, ReplyHead, Content, Line, Data, Return, Trailing, Whole};
 
+use crate::count::{HEAD_LIMIT, LineCount};
 use crate::fields::BODY_LIMIT;
 use crate::head::{request_frame, response_frame, trailer_end};
 use crate::refusal::{Frame, Refusal};
-use crate::scan::{HEAD_LIMIT, Scan};
 use httparse::{Status, parse_chunk_size};
 use memchr::memchr;
 use std::alloc::Global;
@@ -29,7 +29,7 @@ pub enum Stop {
 
 /// What comes next.
 #[derive(Clone, Copy, Debug, PartialEq, Eq)]
-pub enum Place {
+pub enum Phase {
     /// The head of a request.
     Head,
     /// The head of a reply.
@@ -51,11 +51,11 @@ pub enum Place {
 /// What was kept of a message, and what comes next.
 #[derive(Drop)]
 pub struct Framing {
-    pub place: Place,
+    pub phase: Phase,
     /// How many bytes the chunks to come may have, where there is a limit.
     pub room: Option<u64>,
     pub kept: Vec<u8>,
-    pub scan: Scan,
+    pub count: LineCount,
 }
 
 impl Framing {
@@ -63,14 +63,14 @@ impl Framing {
     pub fn request(alloc: Global) -> Framing
         ensures new { IsNewRequest result }
         ensures room { result.room ≡ Some 1048576 }
-        ensures place { result.place ≡ Head }
+        ensures phase { result.phase ≡ Head }
         ensures kept { result.kept.items ≡ [] }
     {
         Framing {
-            place: Place::Head,
+            phase: Phase::Head,
             room: Some(BODY_LIMIT),
             kept: Vec::new(alloc),
-            scan: Scan::new(),
+            count: LineCount::new(),
         }
     }
 
@@ -79,25 +79,25 @@ impl Framing {
         ensures { IsNewReply result }
     {
         Framing {
-            place: Place::ReplyHead,
+            phase: Phase::ReplyHead,
             room: None,
             kept: Vec::new(alloc),
-            scan: Scan::new(),
+            count: LineCount::new(),
         }
     }
 
     /// Keeps a byte of a head or of a trailer, and counts its line.
     fn keep(&mut self, byte: u8) -> Result<(), Stop>
-        requires { self.old.scan.counted < 2 ^ 64 - 1 }
+        requires { self.old.count.counted < 2 ^ 64 - 1 }
         ensures kept { OnOk result (self.new.kept.items ≡ self.old.kept.items ++ byte ∷ []) }
-        ensures scan { OnOk result (self.new.scan ≡ scan_step self.old.scan byte) }
-        ensures place { self.new.place ≡ self.old.place }
+        ensures count { OnOk result (self.new.count ≡ count_step self.old.count byte) }
+        ensures phase { self.new.phase ≡ self.old.phase }
         ensures room { self.new.room ≡ self.old.room }
         ensures memory { IfErr result (λ stop. stop ≡ Stop.NoMemory) }
     {
         match self.kept.push(byte) {
             Ok(()) => {
-                self.scan = self.scan.after(byte);
+                self.count = self.count.after(byte);
                 Ok(())
             }
             Err(_) => Err(Stop::NoMemory),
@@ -113,11 +113,11 @@ impl Framing {
         self.room = room;
         match frame {
             Frame::Counted(length) => {
-                self.place = content_place(length);
+                self.phase = content_phase(length);
                 Ok(())
             }
             Frame::Chunked => {
-                self.place = Place::Line;
+                self.phase = Phase::Line;
                 Ok(())
             }
             Frame::Refused(refusal) => Err(Stop::Refused(refusal)),
@@ -126,14 +126,14 @@ impl Framing {
 
     /// One byte more of a request's head.
     fn step_head(&mut self, byte: u8) -> Result<(), Stop>
-        requires place { self.old.place ≡ Head }
+        requires phase { self.old.phase ≡ Head }
         requires ready { IsOpen self.old }
         ensures { StepsBy self.old (byte ∷ []) result self.new }
     {
         let Ok(()) = self.keep(byte) else {
             return Err(Stop::NoMemory);
         };
-        match request_frame(&self.kept, self.scan) {
+        match request_frame(&self.kept, self.count) {
             Ok(Some(frame)) => self.follow(Some(BODY_LIMIT), frame),
             Ok(None) => Ok(()),
             Err(refusal) => Err(Stop::Refused(refusal)),
@@ -142,14 +142,14 @@ impl Framing {
 
     /// One byte more of a reply's head.
     fn step_reply_head(&mut self, byte: u8) -> Result<(), Stop>
-        requires place { self.old.place ≡ ReplyHead }
+        requires phase { self.old.phase ≡ ReplyHead }
         requires ready { IsOpen self.old }
         ensures { StepsBy self.old (byte ∷ []) result self.new }
     {
         let Ok(()) = self.keep(byte) else {
             return Err(Stop::NoMemory);
         };
-        match response_frame(&self.kept, self.scan) {
+        match response_frame(&self.kept, self.count) {
             Ok(Some(frame)) => self.follow(None, frame),
             Ok(None) => Ok(()),
             Err(refusal) => Err(Stop::Refused(refusal)),
@@ -158,16 +158,16 @@ impl Framing {
 
     /// One byte more of a trailer.
     fn step_trailer(&mut self, byte: u8) -> Result<(), Stop>
-        requires place { self.old.place ≡ Trailing }
+        requires phase { self.old.phase ≡ Trailing }
         requires ready { IsOpen self.old }
         ensures { StepsBy self.old (byte ∷ []) result self.new }
     {
         let Ok(()) = self.keep(byte) else {
             return Err(Stop::NoMemory);
         };
-        match trailer_end(&self.kept, byte, self.scan) {
+        match trailer_end(&self.kept, byte, self.count) {
             Ok(Some(())) => {
-                self.place = Place::Whole;
+                self.phase = Phase::Whole;
                 Ok(())
             }
             Ok(None) => Ok(()),
@@ -177,7 +177,7 @@ impl Framing {
 
     /// One byte more of a chunk line.
     fn step_line(&mut self, byte: u8) -> Result<(), Stop>
-        requires place { self.old.place ≡ Line }
+        requires phase { self.old.phase ≡ Line }
         requires ready { IsOpen self.old }
         ensures { StepsBy self.old (byte ∷ []) result self.new }
     {
@@ -199,7 +199,7 @@ impl Framing {
     /// Keeps a run of bytes of a line.
     fn keep_run(&mut self, count: usize, piece: &[u8]) -> Result<usize, Stop>
         requires ready { IsOpen self.old }
-        requires run { IsRun (most_kept_at self.old.place) (length self.old.kept.items) piece.now count }
+        requires run { IsRun (most_kept_at self.old.phase) (length self.old.kept.items) piece.now count }
         requires some { 0 < count }
         ensures { (body : Items ℕ) → Steps self.old piece.now body result self.new body }
     {
@@ -207,25 +207,25 @@ impl Framing {
         let Ok(()) = self.kept.extend_from_slice(run) else {
             return Err(Stop::NoMemory);
         };
-        self.scan = self.scan.after_run(run);
+        self.count = self.count.after_run(run);
         Ok(count)
     }
 
     /// One byte of the line end behind a chunk.
     fn step_return(&mut self, has_return: bool, byte: u8) -> Result<(), Stop>
-        requires { self.old.place ≡ Return has_return }
+        requires { self.old.phase ≡ Return has_return }
         ensures { StepsBy self.old (byte ∷ []) result self.new }
     {
         if has_return {
             if byte == b'\n' {
                 self.kept.clear();
-                self.place = Place::Line;
+                self.phase = Phase::Line;
                 return Ok(());
             }
             return Err(Stop::Refused(Refusal::Chunk));
         }
         if byte == b'\r' {
-            self.place = Place::Return(true);
+            self.phase = Phase::Return(true);
             return Ok(());
         }
         Err(Stop::Refused(Refusal::Chunk))
@@ -233,7 +233,7 @@ impl Framing {
 
     /// Bytes of a body from the front of the piece.
     fn take_content(&mut self, left: u64, piece: &[u8], body: &mut Vec<u8>) -> Result<usize, Stop>
-        requires place { self.old.place ≡ Content left }
+        requires phase { self.old.phase ≡ Content left }
         requires lacks { 0 < left }
         requires some { 0 < length piece.now }
         ensures { Steps self.old piece.now body.old.items result self.new body.new.items }
@@ -242,13 +242,13 @@ impl Framing {
         let Ok(()) = body.extend_from_slice(&piece[..count]) else {
             return Err(Stop::NoMemory);
         };
-        self.place = content_place(left - count as u64);
+        self.phase = content_phase(left - count as u64);
         Ok(count)
     }
 
     /// Bytes of a chunk from the front of the piece.
     fn take_data(&mut self, left: u64, piece: &[u8], body: &mut Vec<u8>) -> Result<usize, Stop>
-        requires place { self.old.place ≡ Data left }
+        requires phase { self.old.phase ≡ Data left }
         requires lacks { 0 < left }
         requires some { 0 < length piece.now }
         ensures { Steps self.old piece.now body.old.items result self.new body.new.items }
@@ -257,39 +257,39 @@ impl Framing {
         let Ok(()) = body.extend_from_slice(&piece[..count]) else {
             return Err(Stop::NoMemory);
         };
-        self.place = chunk_place(left - count as u64);
+        self.phase = chunk_phase(left - count as u64);
         Ok(count)
     }
 
     /// Some bytes from the front of the piece.
     fn step(&mut self, piece: &[u8], body: &mut Vec<u8>) -> Result<usize, Stop>
         requires ready { IsOpen self.old }
-        requires unfinished { is_whole_at self.old.place ≡ false }
+        requires unfinished { is_whole_at self.old.phase ≡ false }
         requires some { 0 < length piece.now }
         ensures { Steps self.old piece.now body.old.items result self.new body.new.items }
     {
-        let run = run_len(most_kept(self.place), self.kept.len(), piece);
+        let run = run_len(most_kept(self.phase), self.kept.len(), piece);
         if run > 0 {
             return self.keep_run(run, piece);
         }
         let byte = piece[0];
-        match self.place {
-            Place::Content(left) => self.take_content(left, piece, body),
-            Place::Data(left) => self.take_data(left, piece, body),
-            Place::Head => one(self.step_head(byte)),
-            Place::ReplyHead => one(self.step_reply_head(byte)),
-            Place::Line => one(self.step_line(byte)),
-            Place::Return(has_return) => one(self.step_return(has_return, byte)),
-            Place::Trailing => one(self.step_trailer(byte)),
-            Place::Whole => unreachable!(),
+        match self.phase {
+            Phase::Content(left) => self.take_content(left, piece, body),
+            Phase::Data(left) => self.take_data(left, piece, body),
+            Phase::Head => one(self.step_head(byte)),
+            Phase::ReplyHead => one(self.step_reply_head(byte)),
+            Phase::Line => one(self.step_line(byte)),
+            Phase::Return(has_return) => one(self.step_return(has_return, byte)),
+            Phase::Trailing => one(self.step_trailer(byte)),
+            Phase::Whole => unreachable!(),
         }
     }
 
     /// Whether the message is whole.
     pub fn is_whole(&self) -> bool
-        ensures { result ≡ is_whole_at self.now.place }
+        ensures { result ≡ is_whole_at self.now.phase }
     {
-        matches!(self.place, Place::Whole)
+        matches!(self.phase, Phase::Whole)
     }
 
     /// Reads a piece, up to the end of the message, and says how many of its bytes belong to it. What
@@ -317,8 +317,8 @@ impl Framing {
         };
         self.room = room;
         self.kept.clear();
-        self.scan = Scan::new();
-        self.place = start_place(size);
+        self.count = LineCount::new();
+        self.phase = start_phase(size);
         Ok(())
     }
 }
@@ -334,14 +334,14 @@ fn front_len(left: u64, len: usize) -> usize
     }
 }
 
-/// How many bytes fill what is kept at a place.
-fn most_kept(place: Place) -> usize
-    ensures { result ≡ most_kept_at place }
+/// How many bytes fill what is kept at a phase.
+fn most_kept(phase: Phase) -> usize
+    ensures { result ≡ most_kept_at phase }
 {
-    match place {
-        Place::Head | Place::ReplyHead | Place::Trailing => HEAD_LIMIT,
-        Place::Line => LINE_LIMIT,
-        Place::Content(_) | Place::Data(_) | Place::Return(_) | Place::Whole => 0,
+    match phase {
+        Phase::Head | Phase::ReplyHead | Phase::Trailing => HEAD_LIMIT,
+        Phase::Line => LINE_LIMIT,
+        Phase::Content(_) | Phase::Data(_) | Phase::Return(_) | Phase::Whole => 0,
     }
 }
 
@@ -369,36 +369,36 @@ fn one(step: Result<(), Stop>) -> Result<usize, Stop>
     }
 }
 
-/// The place in a body that lacks so many bytes.
-fn content_place(left: u64) -> Place
+/// The phase in a body that lacks so many bytes.
+fn content_phase(left: u64) -> Phase
     ensures { result ≡ content_left left }
 {
     if left == 0 {
-        Place::Whole
+        Phase::Whole
     } else {
-        Place::Content(left)
+        Phase::Content(left)
     }
 }
 
-/// The place behind a chunk line of this size.
-fn start_place(size: u64) -> Place
+/// The phase behind a chunk line of this size.
+fn start_phase(size: u64) -> Phase
     ensures { result ≡ chunk_start size }
 {
     if size == 0 {
-        Place::Trailing
+        Phase::Trailing
     } else {
-        Place::Data(size)
+        Phase::Data(size)
     }
 }
 
-/// The place in a chunk that lacks so many bytes.
-fn chunk_place(left: u64) -> Place
+/// The phase in a chunk that lacks so many bytes.
+fn chunk_phase(left: u64) -> Phase
     ensures { result ≡ chunk_left left }
 {
     if left == 0 {
-        Place::Return(false)
+        Phase::Return(false)
     } else {
-        Place::Data(left)
+        Phase::Data(left)
     }
 }
 

@@ -7,7 +7,7 @@ use Rattle.ojp_http.proofs.Requesting.{HasRead-start, HasRead-more, allows_whole
 use Rattle.ojp_http.proofs.ask.read_request.Goals as goal
 
 pub reading-init : goal.reading-init
-reading-init g c = (HasRead-start _ _ _ _ c.request-framing.ensures.new c.request-framing.ensures.room c.request-framing.ensures.place c.new-body.ensures.items, refl)
+reading-init g c = (HasRead-start _ _ _ _ c.request-framing.ensures.new c.request-framing.ensures.room c.request-framing.ensures.phase c.new-body.ensures.items, refl)
 
 pub returns-then-count-eq0-clause-allowed : goal.returns-then-count-eq0-clause-allowed
 returns-then-count-eq0-clause-allowed g c =

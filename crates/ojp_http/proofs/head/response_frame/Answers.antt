@@ -8,9 +8,9 @@ use Rattle.ojp_http.proofs.Headed.{unparsed, decides_found, decides_none, found_
 use Rattle.ojp_http.proofs.Grammars.{responses, few_fields}
 use Rattle.ojp_http.proofs.head.response_frame.Goals as goal
 
-pub returns-then-not-scan : goal.returns-then-not-scan
-returns-then-not-scan c =
-    unparsed ReadsResponse (λ (h : ResponseHead). h.fields) 66 Head TooLargeHead reply_frame responses c.args.bytes.now c.args.scan c.requires.grown c.requires.scanned (not-true c.args.scan.has_empty c.if-not-scan.true)
+pub returns-then-not-count : goal.returns-then-not-count
+returns-then-not-count c =
+    unparsed ReadsResponse (λ (h : ResponseHead). h.fields) 66 Head TooLargeHead reply_frame responses c.args.bytes.now c.args.count c.requires.grown c.requires.counted (not-true c.args.count.has_empty c.if-not-count.true)
     (sym c.is_full-is_full.ensures ∙ c.if-not-is_full.true)
 
 pub returns-in-Ok-Some : goal.returns-in-Ok-Some
@@ -27,12 +27,12 @@ returns-in-Ok-Some c =
 
 pub returns-in-Ok-None : goal.returns-in-Ok-None
 returns-in-Ok-None c =
-    decides_none ReadsResponse (λ (h : ResponseHead). h.fields) 66 Head TooLargeHead reply_frame 1 responses (omega arith) c.args.bytes.now c.args.scan c.requires.grown c.requires.scanned c.is_full-is_full.result c.is_full-is_full.ensures
+    decides_none ReadsResponse (λ (h : ResponseHead). h.fields) 66 Head TooLargeHead reply_frame 1 responses (omega arith) c.args.bytes.now c.args.count c.requires.grown c.requires.counted c.is_full-is_full.result c.is_full-is_full.ensures
     c.parse_response-parsed.result c.parse_response-parsed.ensures.partial c.parse_response-parsed.ensures.invalid c.parse_response-parsed.ensures.too_many (λ e. rw e at c.parse_response-parsed.ensures.no_room)
     (Ok None) (cc)
 
 pub returns-in-Err : goal.returns-in-Err
 returns-in-Err c =
-    decides_none ReadsResponse (λ (h : ResponseHead). h.fields) 66 Head TooLargeHead reply_frame 1 responses (omega arith) c.args.bytes.now c.args.scan c.requires.grown c.requires.scanned c.is_full-is_full.result c.is_full-is_full.ensures
+    decides_none ReadsResponse (λ (h : ResponseHead). h.fields) 66 Head TooLargeHead reply_frame 1 responses (omega arith) c.args.bytes.now c.args.count c.requires.grown c.requires.counted c.is_full-is_full.result c.is_full-is_full.ensures
     c.parse_response-parsed.result c.parse_response-parsed.ensures.partial c.parse_response-parsed.ensures.invalid c.parse_response-parsed.ensures.too_many (λ e. rw e at c.parse_response-parsed.ensures.no_room)
     (Err c.in-Err.refusal) (cc)

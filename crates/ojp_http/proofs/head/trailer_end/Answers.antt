@@ -6,17 +6,17 @@ use Rattle.httparse.specs.declared.Error.{Error}
 use Rattle.httparse.specs.declared.Status.{Status}
 use Rattle.ojp_http.specs.declared.refusal.Refusal.{Refusal}
 use Rattle.ojp_http.specs.declared.refusal.Refusal.TheVariants.{Chunk}
-use Rattle.ojp_http.specs.declared.scan.Scan.{Scan}
+use Rattle.ojp_http.specs.declared.count.LineCount.{LineCount}
 use Rattle.ojp_http.specs.Bodies.{ReadsTrailer}
 use Rattle.ojp_http.specs.Outcomes.{HasGrown, decided_by}
-use Rattle.ojp_http.specs.Scanned.{no_lines, scan_from, is_full_by}
+use Rattle.ojp_http.specs.LineCounts.{no_lines, count_from, is_full_by}
 use Rattle.ojp_http.proofs.Headed.{unended, decides_found, decides_none, found_by, on_partial, on_invalid, DecidesRest}
 use Rattle.ojp_http.proofs.Grammars.{trailers, few_fields}
 use Rattle.ojp_http.proofs.head.trailer_end.Goals as goal
 
 pub returns-then-newest-ne10 : goal.returns-then-newest-ne10
 returns-then-newest-ne10 c =
-    unended ReadsTrailer (λ t. t.0) 65 Chunk Chunk (λ t. tt {0}) 0 trailers c.args.bytes.now c.requires.newest.0 c.args.newest c.args.scan c.requires.grown c.requires.scanned c.requires.newest.1 c.if-newest-ne10.true
+    unended ReadsTrailer (λ t. t.0) 65 Chunk Chunk (λ t. tt {0}) 0 trailers c.args.bytes.now c.requires.newest.0 c.args.newest c.args.count c.requires.grown c.requires.counted c.requires.newest.1 c.if-newest-ne10.true
     (sym c.is_full-is_full.ensures ∙ c.if-not-is_full.true)
 
 pub returns-in-Ok-Some : goal.returns-in-Ok-Some
@@ -31,7 +31,7 @@ returns-in-Ok-Some c =
     (few_fields c.args.bytes.now c.parse_headers-parsed.new.headers c.in-Ok-Some.field-0-0.1 found.0 at.fields_are (omega (arith, within.count_fits, c.parse_headers-parsed.auto.headers))) refl
 
 -- what the parser's clauses decide of a trailer
-trailer_none : (bytes : List ℕ) (s : Scan) → HasGrown ReadsTrailer (λ t. t.0) 65 bytes → s ≡ scan_from no_lines bytes → (is_full : Bool) → is_full ≡ is_full_by 65 (length bytes) s
+trailer_none : (bytes : List ℕ) (s : LineCount) → HasGrown ReadsTrailer (λ t. t.0) 65 bytes → s ≡ count_from no_lines bytes → (is_full : Bool) → is_full ≡ is_full_by 65 (length bytes) s
     → (parsed : Result (Status (ℕ × ℕ)) Error) → OnPartial parsed (HasNoSection bytes) → OnInvalid parsed (NeverHasSection bytes)
     → OnTooManyHeaders parsed (SectionExceeds 64 bytes) → OnTooManyHeaders parsed (SectionOverflows 64 bytes)
     → (r : Result (Option (ℕ × ℕ)) Refusal) → decided_by parsed is_full Chunk Chunk ≡ r → DecidesRest ReadsTrailer (λ t. t.0) 65 Chunk Chunk (λ t. tt {0}) bytes r
@@ -44,10 +44,10 @@ trailer_none bytes s g is is_full full parsed partial invalid exceeds overflows 
 
 pub returns-in-Ok-None : goal.returns-in-Ok-None
 returns-in-Ok-None c =
-    trailer_none c.args.bytes.now c.args.scan c.requires.grown c.requires.scanned c.is_full-is_full.result c.is_full-is_full.ensures
+    trailer_none c.args.bytes.now c.args.count c.requires.grown c.requires.counted c.is_full-is_full.result c.is_full-is_full.ensures
     c.parse_headers-parsed.result c.parse_headers-parsed.ensures.partial c.parse_headers-parsed.ensures.invalid c.parse_headers-parsed.ensures.too_many (λ e. rw e at c.parse_headers-parsed.ensures.no_room) (Ok None) (cc)
 
 pub returns-in-Err : goal.returns-in-Err
 returns-in-Err c =
-    trailer_none c.args.bytes.now c.args.scan c.requires.grown c.requires.scanned c.is_full-is_full.result c.is_full-is_full.ensures
+    trailer_none c.args.bytes.now c.args.count c.requires.grown c.requires.counted c.is_full-is_full.result c.is_full-is_full.ensures
     c.parse_headers-parsed.result c.parse_headers-parsed.ensures.partial c.parse_headers-parsed.ensures.invalid c.parse_headers-parsed.ensures.too_many (λ e. rw e at c.parse_headers-parsed.ensures.no_room) (Err c.in-Err.refusal) (cc)

@@ -1,5 +1,5 @@
 use Rattle.std.proofs.Common.{refl, ap, ◌∙◌}
-use Rattle.ojp_http.specs.declared.machine.Place.TheVariants.{Return}
+use Rattle.ojp_http.specs.declared.machine.Phase.TheVariants.{Return}
 use Rattle.ojp_http.proofs.Stepping.{return_comes, feed_comes}
 use Rattle.ojp_http.proofs.machine.Framing.step_return.Goals as goal
 

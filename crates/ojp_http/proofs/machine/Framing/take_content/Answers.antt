@@ -8,4 +8,4 @@ returns c =
     let n = c.front_len-count.result in
     let e = c.front_len-count.ensures in
     advances c.args.self.now _ c.args.piece.now c.args.body.now.items _ n (omega (arith, e, c.requires.lacks, c.requires.some)) (omega (arith, e)) c.in-Ok.ensures.items
-    (content_taken c.args.self.now _ c.args.left n (take n c.args.piece.now) c.requires.place c.content_place-self.ensures refl (omega (arith, e, length-take n c.args.piece.now)) (omega (arith, e)))
+    (content_taken c.args.self.now _ c.args.left n (take n c.args.piece.now) c.requires.phase c.content_phase-self.ensures refl (omega (arith, e, length-take n c.args.piece.now)) (omega (arith, e)))

@@ -4,17 +4,17 @@ use Rattle.std.specs.List.{list_all}
 use Rattle.std.specs.Prelude.{◌==◌}
 use Rattle.std.proofs.lemmas.List.Folds.{list_all-append}
 use lib.Dec.{eqb-suc-zero}
-use Rattle.ojp_http.specs.declared.scan.Begun.{Begun}
-use Rattle.ojp_http.specs.declared.scan.Begun.TheVariants.{Nothing, Return, Other}
-use Rattle.ojp_http.specs.declared.scan.Scan.{Scan}
-use Rattle.ojp_http.specs.Scanned.{no_lines, begun_step, end_by, scan_end, scan_step, scan_from}
+use Rattle.ojp_http.specs.declared.count.Begun.{Begun}
+use Rattle.ojp_http.specs.declared.count.Begun.TheVariants.{Nothing, Return, Other}
+use Rattle.ojp_http.specs.declared.count.LineCount.{LineCount}
+use Rattle.ojp_http.specs.LineCounts.{no_lines, begun_step, end_by, count_end, count_step, count_from}
 use Rattle.ojp_http.specs.Heads.{lines_after, is_empty_line, without_front}
 use Rattle.std.proofs.lemmas.Bool.{and_right, cases_Bool}
 use Rattle.std.proofs.Math.Bool.{and-true}
 
-pub scan_from-append : (s : Scan) (a b : List ℕ) → scan_from s (a ++ b) ≡ scan_from (scan_from s a) b
-scan_from-append s [] b = refl
-scan_from-append s (x ∷ a) b = scan_from-append (scan_step s x) a b
+pub count_from-append : (s : LineCount) (a b : List ℕ) → count_from s (a ++ b) ≡ count_from (count_from s a) b
+count_from-append s [] b = refl
+count_from-append s (x ∷ a) b = count_from-append (count_step s x) a b
 
 -- the line that has begun
 abbrev pub begun_of : List ℕ → Begun
@@ -43,7 +43,7 @@ are_filled-push : (lines : List (List ℕ)) (line : List ℕ) → are_filled (li
 are_filled-push lines line = list_all-append (λ l. not (is_empty_line l)) lines (line ∷ [])
 
 -- the count where these lines are counted, and no line has begun
-abbrev pub count_of : List (List ℕ) → Scan
+abbrev pub count_of : List (List ℕ) → LineCount
 count_of counted = record { begun = Nothing; counted = length counted; has_empty = not (are_filled counted) }
 
 count_of-push : (k : List ℕ) (counted : List (List ℕ)) (line : List ℕ) (e : Bool) → is_empty_line line ≡ e
@@ -67,8 +67,8 @@ ends_empty b which [] line empty =
     by_which b which (λ v. end_by v 0 false ≡ count_of (pushed [] line)) same same
 ends_empty b which (k ∷ counted) line empty =
     let P : Begun → Type 0 = λ v. end_by v (length (k ∷ counted)) (not (are_filled (k ∷ counted))) ≡ count_of (pushed (k ∷ counted) line) in
-    let more : Scan = record { begun = Nothing; counted = length (k ∷ counted) + 1; has_empty = true } in
-    let first : Scan = record { begun = Nothing; counted = 0; has_empty = not (are_filled (k ∷ counted)) } in
+    let more : LineCount = record { begun = Nothing; counted = length (k ∷ counted) + 1; has_empty = true } in
+    let first : LineCount = record { begun = Nothing; counted = 0; has_empty = not (are_filled (k ∷ counted)) } in
     let chosen : (if suc (length counted) == 0 then first else more) ≡ more = ap (λ t. if t then first else more) (eqb-suc-zero (length counted)) in
     let last : more ≡ count_of (pushed (k ∷ counted) line) =
     (λ i. record { begun = Nothing; counted = length (k ∷ counted) + 1; has_empty = not ((sym (and_right (are_filled (k ∷ counted)) false refl)) i) })
@@ -98,19 +98,19 @@ ends counted (b ∷ []) =
 ends counted (b ∷ c ∷ rest) = ends_filled counted (b ∷ c ∷ rest) refl
 
 -- these lines were done, and this one has begun
-pub record Counts (done : List (List ℕ)) (line : List ℕ) (s : Scan) : Type 0 where
+pub record Counts (done : List (List ℕ)) (line : List ℕ) (s : LineCount) : Type 0 where
   pub begun : s.begun ≡ begun_of line
   pub counted : s.counted ≡ length (without_front done)
   pub has_empty : s.has_empty ≡ not (are_filled (without_front done))
 
-Counts-end : (done : List (List ℕ)) (line : List ℕ) (s : Scan) → Counts done line s → Counts (done ++ line ∷ []) [] (scan_end s)
+Counts-end : (done : List (List ℕ)) (line : List ℕ) (s : LineCount) → Counts done line s → Counts (done ++ line ∷ []) [] (count_end s)
 Counts-end done line s c =
-    let here : scan_end s ≡ count_of (without_front (done ++ line ∷ [])) =
+    let here : count_end s ≡ count_of (without_front (done ++ line ∷ [])) =
     (λ i. end_by (c.begun i) (c.counted i) (c.has_empty i)) ∙ ends (without_front done) line ∙ ap count_of (sym (without_front-push done line)) in
     record {
-      begun = ap (λ (v : Scan). v.begun) here;
-      counted = ap (λ (v : Scan). v.counted) here;
-      has_empty = ap (λ (v : Scan). v.has_empty) here;
+      begun = ap (λ (v : LineCount). v.begun) here;
+      counted = ap (λ (v : LineCount). v.counted) here;
+      has_empty = ap (λ (v : LineCount). v.has_empty) here;
     }
 
 pub begun_of-push : (line : List ℕ) (b : ℕ) → begun_step (begun_of line) b ≡ begun_of (line ++ b ∷ [])
@@ -119,20 +119,20 @@ begun_of-push (x ∷ []) b = elim (x == 13) as (λ t. begun_step (if t then Retu
 begun_of-push (x ∷ y ∷ rest) b = refl
 
 -- however many bytes follow
-pub Counts-run : (bytes : List ℕ) (done : List (List ℕ)) (line : List ℕ) (s : Scan) → Counts done line s
-    → (begun : List ℕ) × Counts (done ++ lines_after line bytes) begun (scan_from s bytes)
+pub Counts-run : (bytes : List ℕ) (done : List (List ℕ)) (line : List ℕ) (s : LineCount) → Counts done line s
+    → (begun : List ℕ) × Counts (done ++ lines_after line bytes) begun (count_from s bytes)
 Counts-run [] done line s c = (line, subst (λ (l : List (List ℕ)). Counts l line s) (sym (append-nil done)) c)
 Counts-run (b ∷ bytes) done line s c =
     elim (b == 10) as
     (λ t. (begun : List ℕ) × Counts (done ++ (if t then (line ∷ lines_after [] bytes) else lines_after (line ++ b ∷ []) bytes)) begun
-    (scan_from (if t then scan_end s else record { begun = begun_step s.begun b; counted = s.counted; has_empty = s.has_empty }) bytes)) [
+    (count_from (if t then count_end s else record { begun = begun_step s.begun b; counted = s.counted; has_empty = s.has_empty }) bytes)) [
       | true ↦
-          let r = Counts-run bytes (done ++ line ∷ []) [] (scan_end s) (Counts-end done line s c) in
-          (r.0, subst (λ (l : List (List ℕ)). Counts l r.0 (scan_from (scan_end s) bytes)) (append_assoc done (line ∷ []) (lines_after [] bytes)) r.1)
+          let r = Counts-run bytes (done ++ line ∷ []) [] (count_end s) (Counts-end done line s c) in
+          (r.0, subst (λ (l : List (List ℕ)). Counts l r.0 (count_from (count_end s) bytes)) (append_assoc done (line ∷ []) (lines_after [] bytes)) r.1)
       | false ↦ Counts-run bytes done (line ++ b ∷ []) (record { begun = begun_step s.begun b; counted = s.counted; has_empty = s.has_empty })
           (record { begun = ap (λ v. begun_step v b) c.begun ∙ begun_of-push line b; counted = c.counted; has_empty = c.has_empty })
     ]
 
 -- the count of all lines of some bytes
-pub counts : (bytes : List ℕ) → (begun : List ℕ) × Counts (lines_after [] bytes) begun (scan_from no_lines bytes)
+pub counts : (bytes : List ℕ) → (begun : List ℕ) × Counts (lines_after [] bytes) begun (count_from no_lines bytes)
 counts bytes = Counts-run bytes [] [] no_lines (record { begun = refl; counted = refl; has_empty = refl })

@@ -1,7 +1,7 @@
 //! Counting the lines of a head, by bytes and by runs of bytes.
 ghost use Rattle.std.specs.Prelude.{◌≡◌, ◌<◌, ◌-◌, ◌^◌, ◌+◌, ◌*◌, length, true};
 ghost use Rattle.ojp_http.specs.Bodies.{has_no_feed};
-ghost use Rattle.ojp_http.specs.Scanned.{no_lines, begun_step, begun_run, scan_end, scan_from, scan_step, is_full_by};
+ghost use Rattle.ojp_http.specs.LineCounts.{no_lines, begun_step, begun_run, count_end, count_from, count_step, is_full_by};
 
 /// The most bytes of a head or of a trailer.
 pub const HEAD_LIMIT: usize = 16_384;
@@ -42,18 +42,18 @@ impl Begun {
 /// How many lines were counted, which are those from the first that is not empty on, and whether one
 /// of them is empty.
 #[derive(Clone, Copy, Debug, PartialEq, Eq)]
-pub struct Scan {
+pub struct LineCount {
     pub begun: Begun,
     pub counted: usize,
     pub has_empty: bool,
 }
 
-impl Scan {
+impl LineCount {
     /// Before the first byte.
-    pub fn new() -> Scan
+    pub fn new() -> LineCount
         ensures { result ≡ no_lines }
     {
-        Scan {
+        LineCount {
             begun: Begun::Nothing,
             counted: 0,
             has_empty: false,
@@ -61,19 +61,19 @@ impl Scan {
     }
 
     /// After a line feed.
-    fn after_line(self) -> Scan
+    fn after_line(self) -> LineCount
         requires { self.counted < 2 ^ 64 - 1 }
-        ensures { result ≡ scan_end self }
+        ensures { result ≡ count_end self }
     {
         let is_empty = !matches!(self.begun, Begun::Other);
         if is_empty && self.counted == 0 {
-            return Scan {
+            return LineCount {
                 begun: Begun::Nothing,
                 counted: 0,
                 has_empty: self.has_empty,
             };
         }
-        Scan {
+        LineCount {
             begun: Begun::Nothing,
             counted: self.counted + 1,
             has_empty: self.has_empty || is_empty,
@@ -81,14 +81,14 @@ impl Scan {
     }
 
     /// After one more byte.
-    pub fn after(self, byte: u8) -> Scan
+    pub fn after(self, byte: u8) -> LineCount
         requires { self.counted < 2 ^ 64 - 1 }
-        ensures { result ≡ scan_step self byte }
+        ensures { result ≡ count_step self byte }
     {
         if byte == b'\n' {
             return self.after_line();
         }
-        Scan {
+        LineCount {
             begun: self.begun.after(byte),
             counted: self.counted,
             has_empty: self.has_empty,
@@ -96,11 +96,11 @@ impl Scan {
     }
 
     /// After a run of bytes without a line feed.
-    pub fn after_run(self, run: &[u8]) -> Scan
+    pub fn after_run(self, run: &[u8]) -> LineCount
         requires { has_no_feed run.now ≡ true }
-        ensures { result ≡ scan_from self run.now }
+        ensures { result ≡ count_from self run.now }
     {
-        Scan {
+        LineCount {
             begun: self.begun.after_run(run),
             counted: self.counted,
             has_empty: self.has_empty,
