@@ -4,13 +4,14 @@ use Rattle.std.specs.Prelude.{Option, Some, None}
 use Rattle.std.specs.List.{count_by}
 use Rattle.std.proofs.lemmas.Bool.{cases_Bool}
 use Rattle.std.proofs.lemmas.Option.{none-some, same_Some}
+use Rattle.ojp_values.proofs.ListFacts.{each_at}
+use Rattle.ojp_values.proofs.EachFacts.{each_of}
 use Rattle.ojp_values.specs.Lists.{Among, Each, IsRising}
 use Rattle.ojp_values.specs.Texts.{Text, same, text_lt}
 use Rattle.ojp_timetable.proofs.Orders.{not_before_itself}
 use Rattle.ojp_timetable.proofs.PointOrder.{lt_carried, lt_other}
 use Rattle.ojp_timetable.proofs.TextFacts.{same_is, same_itself}
 use Rattle.ojp_exchange.specs.Joins.{first_twice}
-use Rattle.ojp_exchange.proofs.RisingFacts.{each_among, each_of}
 use Rattle.ojp_exchange.proofs.SortFacts.{NoneBehind, count_more, count_no, count_yes, counted_is}
 
 twice_case : (b : Bool) (x : Text) (found : Option Text) (c : Option Text) → b ≡ false → cond b (Some x) found ≡ c → found ≡ c
@@ -32,7 +33,7 @@ rises (x ∷ y ∷ more) h e =
     let apart = never_twice (same x y) x (first_twice (y ∷ more)) e in
     let rest = rises (y ∷ more) h.1 (twice_case (same x y) x (first_twice (y ∷ more)) None apart e) in
     let first : text_lt x y ≡ true = lt_other y x (not_same y x apart) h.0.0 in
-    ((first, each_of (λ (z : Text). text_lt x z ≡ true) more (λ z a. lt_carried x y z first (each_among (λ (w : Text). text_lt y w ≡ true) more z rest.0 a))), rest)
+    ((first, each_of (λ (z : Text). text_lt x z ≡ true) more (λ z a. lt_carried x y z first (each_at (λ (w : Text). text_lt y w ≡ true) z more rest.0 a))), rest)
   where
     not_same : (y x : Text) → same x y ≡ false → same y x ≡ false
     not_same y x h = elim (cases_Bool (same y x)) [ inl t ↦ absurd (true≢false (sym (subst (λ (w : Text). same x w ≡ true) (sym (same_is y x t)) (same_itself x)) ∙ h)) | inr t ↦ t ]
@@ -41,7 +42,7 @@ rises (x ∷ y ∷ more) h e =
 first_least : (x : Text) (xs : List Text) (e : Text) → Each (λ (y : Text). text_lt y x ≡ false) xs → Among e (x ∷ xs) → text_lt e x ≡ false
 first_least x xs e h a = elim a [
   | inl i ↦ subst (λ (t : Text). text_lt t x ≡ false) (sym i) (not_before_itself x)
-  | inr t ↦ each_among (λ (y : Text). text_lt y x ≡ false) xs e h t
+  | inr t ↦ each_at (λ (y : Text). text_lt y x ≡ false) e xs h t
 ]
 
 pub twice : (codes : List Text) (c : Text) → NoneBehind text_lt codes → first_twice codes ≡ Some c

@@ -7,6 +7,7 @@ use Rattle.std.proofs.lemmas.Bool.{cases_Bool, cases_lt}
 use Rattle.std.proofs.lemmas.List.{length-map}
 use Rattle.std.proofs.lemmas.List.Sorted.{length_permutation}
 use Rattle.std.proofs.Math.Nat.{eq-or-lt_of_le}
+use Rattle.ojp_values.proofs.ListFacts.{each_at}
 use Rattle.ojp_values.specs.Lists.{Among, IsRising}
 use Rattle.ojp_values.specs.Texts.{Text, same, text_lt}
 use Rattle.ojp_values.specs.declared.trips.Neighbour.{Neighbour}
@@ -24,7 +25,7 @@ use Rattle.ojp_exchange.specs.Kept.{AreKept, HasNoChange, Says, SaysNothing, boo
 use Rattle.ojp_exchange.proofs.MadeFacts.{among_flat, among_map, code_list, point_list, points_rise, flat_among, later_neighbour, later_point, map_among, own_codes, times_sorted}
 use Rattle.ojp_exchange.proofs.CodeFacts.{rises, twice}
 use Rattle.ojp_exchange.proofs.KeptFacts.{are_kept}
-use Rattle.ojp_exchange.proofs.RisingFacts.{each_among, entry_order, rising_at}
+use Rattle.ojp_exchange.proofs.RisingFacts.{entry_order, rising_at}
 use Rattle.ojp_exchange.proofs.SortFacts.{one_way, sorted_list}
 
 -- ---- the codes
@@ -158,7 +159,7 @@ is_dispute codes points stop left right kept found =
                   let by_point = subst (λ (q : Point). Among by.0 q.neighbours) one_point by.1 in
                   let one_here = subst (λ (q : Point). IsOneSided (book_of codes points) (link_of q by.0)) one_point here_one in
                   subst (λ (q : Point). link_lt (link_of q by.0) link ≡ false) (sym one_point)
-                  (least_here codes points point right first (each_among (λ (x : Point). IsPointOf x.region x) points point kept.own here).rising by.0 by_point one_here)
+                  (least_here codes points point right first (each_at (λ (x : Point). IsPointOf x.region x) point points kept.own here).rising by.0 by_point one_here)
               | inr l ↦
                   one_way link_lt link_tie link_order link (link_of from.0 by.0)
                   (later_point point from.0 first.neighbour by.0 (rising_at entry_lt points found.number at.0 point from.0 kept.rise found.at at.1 l))

@@ -1,10 +1,12 @@
 -- What a book keeps of the lists; a region of the lists has at most 255 points among all.
-use Rattle.std.proofs.Common.{◌≡◌, ◌≤◌, Bool, false, cond, List, [], ◌∷◌, length, subst, sym, ◌∙◌, arith, inl, inr, true≢false}
+use Rattle.std.proofs.Common.{◌≡◌, ◌≤◌, Bool, false, cond, List, [], ◌∷◌, subst, sym, ◌∙◌, arith, inl, inr, true≢false}
 use Rattle.std.specs.List.{count_by}
 use Rattle.std.specs.List.Sorted.{IsPermutation}
 use Rattle.std.proofs.lemmas.Bool.{cases_Bool}
 use Rattle.std.proofs.lemmas.List.Sorted.{sum_by-IsPermutation}
 use Rattle.std.proofs.lemmas.List.Sums.{sum_by-append}
+use Rattle.ojp_values.proofs.ListFacts.{each_at}
+use Rattle.ojp_values.proofs.EachFacts.{each_of}
 use Rattle.ojp_values.specs.Limits.{IsWellPoint}
 use Rattle.ojp_values.specs.Lists.{Among, IsRising}
 use Rattle.ojp_values.specs.Texts.{Text, same, text_lt}
@@ -15,15 +17,7 @@ use Rattle.ojp_exchange.specs.declared.region_points.RegionPoints.{RegionPoints}
 use Rattle.ojp_exchange.specs.Joins.{AreWellLists, HaveOwnCodes, times}
 use Rattle.ojp_exchange.specs.Kept.{AreKept, entry_lt}
 use Rattle.ojp_exchange.proofs.MadeFacts.{among_back, among_moved, code_list, map_among, own_codes, point_list, region_in}
-use Rattle.ojp_exchange.proofs.RisingFacts.{each_among, each_of}
-use Rattle.ojp_exchange.proofs.SortFacts.{count_more, count_no, count_none, count_yes, none_counted}
-
-count_within : {X : Type 0} (p : X → Bool) (xs : List X) → count_by p xs ≤ length xs
-count_within p [] = omega arith
-count_within p (x ∷ xs) = elim (cases_Bool (p x)) [
-  | inl t ↦ omega (arith, count_yes p x xs t, count_within p xs)
-  | inr t ↦ omega (arith, count_no p x xs t, count_within p xs)
-]
+use Rattle.ojp_exchange.proofs.SortFacts.{count_more, count_within, count_none, count_yes, none_counted}
 
 -- the point is one of the region
 abbrev of_region : Text → Point → Bool
@@ -45,7 +39,7 @@ few_listed (l ∷ ls) region well own =
           omega (arith, sum, none, count_within (of_region region) l.points, well.0.few)
       | inr t ↦
           let none = count_none (of_region region) l.points (λ x a.
-          not_of region x (λ e. true≢false (sym (is_same region l.code (e ∙ (each_among (IsPointOf l.code) l.points x well.0.each a).of_region)) ∙ t))) in
+          not_of region x (λ e. true≢false (sym (is_same region l.code (e ∙ (each_at (IsPointOf l.code) x l.points well.0.each a).of_region)) ∙ t))) in
           omega (arith, sum, none, few_listed ls region well.1 fewer)
     ]
   where
@@ -63,15 +57,15 @@ pub are_kept : (lists : List RegionPoints) (codes : List Text) (points : List Po
 are_kept lists codes points well pc pp codes_rise rise =
     let of : (x : Point) → Among x points → (list : RegionPoints) × Among list lists × Among x list.points × (x.region ≡ list.code) =
     λ x a. region_in lists x well (among_back (point_list lists) points x pp a) in
-    let good : (list : RegionPoints) → Among list lists → AreWellPoints list.code list.points = λ list a. each_among (λ (l : RegionPoints). AreWellPoints l.code l.points) lists list well a in
+    let good : (list : RegionPoints) → Among list lists → AreWellPoints list.code list.points = λ list a. each_at (λ (l : RegionPoints). AreWellPoints l.code l.points) list lists well a in
     record {
       codes_rise = codes_rise;
       rise = rise;
       few = λ region. few_kept lists points region well (own_codes lists codes pc codes_rise) pp;
       own = each_of (λ (x : Point). IsPointOf x.region x) points (λ x a.
           let at = of x a in
-          subst (λ (t : Text). IsPointOf t x) (sym at.3) (each_among (IsPointOf at.0.code) at.0.points x (good at.0 at.1).each at.2));
-      bounded = each_of IsWellPoint points (λ x a. let at = of x a in each_among IsWellPoint at.0.points x (good at.0 at.1).bounded at.2);
+          subst (λ (t : Text). IsPointOf t x) (sym at.3) (each_at (IsPointOf at.0.code) x at.0.points (good at.0 at.1).each at.2));
+      bounded = each_of IsWellPoint points (λ x a. let at = of x a in each_at IsWellPoint x at.0.points (good at.0 at.1).bounded at.2);
       known = each_of (λ (x : Point). Among x.region codes) points (λ x a.
           let at = of x a in
           among_moved (code_list lists) codes x.region pc (subst (λ (t : Text). Among t (code_list lists)) (sym at.3) (map_among (λ (l : RegionPoints). l.code) lists at.0 at.1)));

@@ -6,7 +6,8 @@ use Rattle.std.proofs.lemmas.Bool.{cases_Bool}
 use Rattle.std.proofs.lemmas.List.Sorted.{Contains-permutation, IsPermutation-sym, sum_by-IsPermutation}
 use Rattle.std.proofs.lemmas.List.Sums.{sum_by-append, sum_by-cons}
 use Rattle.std.proofs.lemmas.Option.{get_or_from_slice_get, slice_get-get_or, slice_get_within}
-use Rattle.ojp_values.proofs.ListFacts.{among_append, among_append_left, among_append_right}
+use Rattle.ojp_values.proofs.EachFacts.{each_of}
+use Rattle.ojp_values.proofs.ListFacts.{among_append, among_append_left, among_append_right, each_at}
 use Rattle.ojp_values.specs.Lists.{Among, Each, IsRising}
 use Rattle.ojp_values.specs.Texts.{Text, same, text_lt}
 use Rattle.ojp_values.specs.declared.trips.Neighbour.{Neighbour}
@@ -19,7 +20,7 @@ use Rattle.ojp_exchange.specs.declared.region_points.RegionPoints.{RegionPoints}
 use Rattle.ojp_exchange.specs.Book.{IsBookOf, Link, Spot, link_lt, spot_lt}
 use Rattle.ojp_exchange.specs.Joins.{AreWellLists, HaveOwnCodes, times}
 use Rattle.ojp_exchange.specs.Kept.{AreKept, book_of, entry_lt, entry_same, link_of, links_of, spot_of}
-use Rattle.ojp_exchange.proofs.RisingFacts.{each_among, each_of, entry_order}
+use Rattle.ojp_exchange.proofs.RisingFacts.{entry_order}
 use Rattle.ojp_exchange.proofs.SortFacts.{NoneBehind, count_more, count_none, count_yes, none_counted, rising_counts, rising_from}
 
 -- ---- a list and its permutation have the same elements
@@ -91,12 +92,12 @@ own_codes lists codes p rise code =
 pub region_in : (lists : List RegionPoints) (point : Point) → AreWellLists lists → Among point (point_list lists) → (list : RegionPoints) × Among list lists × Among point list.points × (point.region ≡ list.code)
 region_in lists point well a =
     let found = among_flat (λ (list : RegionPoints). list.points) lists point a in
-    let good = each_among (λ (list : RegionPoints). AreWellPoints list.code list.points) lists found.0 well found.1 in
-    (found.0, found.1, found.2, (each_among (IsPointOf found.0.code) found.0.points point good.each found.2).of_region)
+    let good = each_at (λ (list : RegionPoints). AreWellPoints list.code list.points) found.0 lists well found.1 in
+    (found.0, found.1, found.2, (each_at (IsPointOf found.0.code) point found.0.points good.each found.2).of_region)
 
 entries_rise : (points : List Point) → IsRising point_lt points → IsRising entry_lt points
 entries_rise [] h = tt
-entries_rise (x ∷ xs) h = (each_of (λ (y : Point). entry_lt x y ≡ true) xs (λ y a. or_left (text_lt x.stop y.stop) _ (each_among (λ (w : Point). point_lt x w ≡ true) xs y h.0 a)), entries_rise xs h.1)
+entries_rise (x ∷ xs) h = (each_of (λ (y : Point). entry_lt x y ≡ true) xs (λ y a. or_left (text_lt x.stop y.stop) _ (each_at (λ (w : Point). point_lt x w ≡ true) y xs h.0 a)), entries_rise xs h.1)
   where
     or_left : (a b : Bool) → a ≡ true → a || b ≡ true
     or_left true b h = refl
@@ -127,7 +128,7 @@ one_each (l ∷ ls) z well own =
           omega (arith, sum, none, few)
       | inr t ↦
           let none = count_none (entry_same z) l.points (λ x a.
-          apart_regions z x (λ e. true≢false (sym (is_same z.region l.code (e ∙ (each_among (IsPointOf l.code) l.points x well.0.each a).of_region)) ∙ t))) in
+          apart_regions z x (λ e. true≢false (sym (is_same z.region l.code (e ∙ (each_at (IsPointOf l.code) x l.points well.0.each a).of_region)) ∙ t))) in
           let few = one_each ls z well.1 fewer in
           omega (arith, sum, none, few)
     ]
@@ -144,7 +145,7 @@ spots_rise [] h = tt
 spots_rise (x ∷ xs) h = (
   each_of (λ (s : Spot). spot_lt (spot_of x) s ≡ true) (map spot_of xs) (λ s a.
       let at = among_map spot_of xs s a in
-      subst (λ (t : Spot). spot_lt (spot_of x) t ≡ true) at.2 (each_among (λ (w : Point). entry_lt x w ≡ true) xs at.0 h.0 at.1)),
+      subst (λ (t : Spot). spot_lt (spot_of x) t ≡ true) at.2 (each_at (λ (w : Point). entry_lt x w ≡ true) at.0 xs h.0 at.1)),
   spots_rise xs h.1,
 )
 
@@ -170,7 +171,7 @@ links_here x [] h = tt
 links_here x (n ∷ ns) h = (
   each_of (λ (l : Link). link_lt (link_of x n) l ≡ true) (map (link_of x) ns) (λ l a.
       let at = among_map (link_of x) ns l a in
-      subst (λ (t : Link). link_lt (link_of x n) t ≡ true) at.2 (later_neighbour x n at.0 (each_among (λ (w : Neighbour). neighbour_lt n w ≡ true) ns at.0 h.0 at.1))),
+      subst (λ (t : Link). link_lt (link_of x n) t ≡ true) at.2 (later_neighbour x n at.0 (each_at (λ (w : Neighbour). neighbour_lt n w ≡ true) at.0 ns h.0 at.1))),
   links_here x ns h.1,
 )
 
@@ -178,7 +179,7 @@ rise_append : (xs ys : List Link) → IsRising link_lt xs → IsRising link_lt y
 rise_append [] ys a b h = b
 rise_append (x ∷ xs) ys a b h = (
   each_of (λ (l : Link). link_lt x l ≡ true) (xs ++ ys) (λ l i. elim (among_append l xs ys i) [
-    | inl k ↦ each_among (λ (w : Link). link_lt x w ≡ true) xs l a.0 k
+    | inl k ↦ each_at (λ (w : Link). link_lt x w ≡ true) l xs a.0 k
     | inr k ↦ h x l (inl refl) k
   ]),
   rise_append xs ys a.1 b (λ z y i k. h z y (inr i) k),
@@ -193,7 +194,7 @@ links_rise (x ∷ xs) h own =
     let at = among_flat links_of xs k b in
     let to = among_map (link_of at.0) at.0.neighbours k at.2 in
     subst (λ (t : Link). link_lt t k ≡ true) from.2 (subst (λ (t : Link). link_lt (link_of x from.0) t ≡ true) to.2
-    (later_point x at.0 from.0 to.0 (each_among (λ (w : Point). entry_lt x w ≡ true) xs at.0 h.0 at.1))))
+    (later_point x at.0 from.0 to.0 (each_at (λ (w : Point). entry_lt x w ≡ true) at.0 xs h.0 at.1))))
 
 -- ---- the book of the lists
 
@@ -219,7 +220,7 @@ is_book lists codes points well pc pp kept = record {
         }),
     (λ has.
         let here = among_moved (point_list lists) points has.point pp (flat_among (λ (l : RegionPoints). l.points) lists has.list has.point has.of_lists has.listed) in
-        let of = each_among (IsPointOf has.list.code) has.list.points has.point (each_among (λ (l : RegionPoints). AreWellPoints l.code l.points) lists has.list well has.of_lists).each has.listed in
+        let of = each_at (IsPointOf has.list.code) has.point has.list.points (each_at (λ (l : RegionPoints). AreWellPoints l.code l.points) has.list lists well has.of_lists).each has.listed in
         let is : spot_of has.point ≡ spot = λ i. record { stop = has.at i; region = (of.of_region ∙ has.code) i; change = has.time i } in
         subst (λ (s : Spot). Among s (map spot_of points)) is (map_among spot_of points has.point here)),
   );
@@ -242,7 +243,7 @@ is_book lists codes points well pc pp kept = record {
         }),
     (λ has.
         let here = among_moved (point_list lists) points has.point pp (flat_among (λ (l : RegionPoints). l.points) lists has.list has.point has.of_lists has.listed) in
-        let of = each_among (IsPointOf has.list.code) has.list.points has.point (each_among (λ (l : RegionPoints). AreWellPoints l.code l.points) lists has.list well has.of_lists).each has.listed in
+        let of = each_at (IsPointOf has.list.code) has.point has.list.points (each_at (λ (l : RegionPoints). AreWellPoints l.code l.points) has.list lists well has.of_lists).each has.listed in
         let is : link_of has.point has.neighbour ≡ link = λ i. record { stop = has.at i; region = (of.of_region ∙ has.code) i; other = has.other i; change = has.time i } in
         subst (λ (l : Link). Among l (flat_map links_of points)) is
         (flat_among links_of points has.point (link_of has.point has.neighbour) here (map_among (link_of has.point) has.point.neighbours has.neighbour has.declared))),

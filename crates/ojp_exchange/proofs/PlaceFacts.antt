@@ -4,6 +4,7 @@ use Rattle.std.specs.Prelude.{Option, MatchOption}
 use Rattle.std.proofs.lemmas.Bool.{cases_Bool, cases_lt}
 use Rattle.std.proofs.Math.Nat.{eq-or-lt_of_le}
 use Rattle.std.proofs.lemmas.Option.{slice_get_within}
+use Rattle.ojp_values.proofs.EachFacts.{up_to}
 use Rattle.ojp_values.specs.Lists.{Among, IsRising}
 use Rattle.ojp_values.specs.Texts.{Text, same}
 use Rattle.ojp_values.specs.declared.trips.Neighbour.{Neighbour}
@@ -13,7 +14,7 @@ use Rattle.ojp_timetable.proofs.ReadFacts.{among_at, at_among, read_once}
 use Rattle.ojp_timetable.proofs.TextFacts.{is_same, same_is}
 use Rattle.ojp_exchange.specs.Kept.{HasNoPoint, IsPointAt, Says, SaysNothing, entry_lt, entry_same}
 use Rattle.ojp_exchange.specs.Points.{HasNeighbour, HasNoNeighbour}
-use Rattle.ojp_exchange.proofs.RisingFacts.{entry_order, rising_at, rising_once, up_to}
+use Rattle.ojp_exchange.proofs.RisingFacts.{entry_order, rising_at, rising_once}
 
 -- what is looked for
 abbrev pub key_of : Text → Text → Point

@@ -1,10 +1,11 @@
 -- Lists that rise, read by number.
-use Rattle.std.proofs.Common.{◌≡◌, ℕ, zero, suc, ◌+◌, ◌<◌, ◌≤◌, Bool, true, false, cond, List, [], ◌∷◌, Option, Some, None, ap, ◌∙◌, refl, sym, subst, arith, slice_get, inl, inr}
+use Rattle.std.proofs.Common.{◌≡◌, ℕ, zero, suc, ◌<◌, Bool, true, false, cond, List, [], ◌∷◌, Option, Some, None, ap, ◌∙◌, refl, sym, subst, arith, slice_get, inl, inr}
 use Rattle.std.proofs.lemmas.Bool.{cases_Bool, cases_lt}
 use Rattle.std.proofs.lemmas.Option.{none-some, same_Some}
 use Rattle.std.proofs.Math.Nat.{eq-or-lt_of_le}
 use Rattle.std.specs.List.{filter, find}
 use Rattle.std.specs.Option.{option_to_list}
+use Rattle.ojp_values.proofs.EachFacts.{each_read}
 use Rattle.ojp_values.specs.Lists.{Among, Each, IsRising}
 use Rattle.ojp_values.specs.Texts.{Text, same, text_lt}
 use Rattle.ojp_values.specs.declared.trips.Point.{Point}
@@ -21,25 +22,12 @@ entry_order =
     (text_order (λ (x : Point). x.region))
 
 module _ {X : Type 0} where
-  pub each_at : (P : X → Type 0) (xs : List X) (k : ℕ) (x : X) → Each P xs → slice_get xs k ≡ Some x → P x
-  each_at P [] k x h e = absurd (none-some x e)
-  each_at P (y ∷ ys) zero x h e = subst P (same_Some y x e) h.0
-  each_at P (y ∷ ys) (suc k) x h e = each_at P ys k x h.1 e
-
-  pub each_among : (P : X → Type 0) (xs : List X) (x : X) → Each P xs → Among x xs → P x
-  each_among P [] x h a = absurd a
-  each_among P (y ∷ ys) x h a = elim a [ inl e ↦ subst P (sym e) h.0 | inr t ↦ each_among P ys x h.1 t ]
-
-  pub each_of : (P : X → Type 0) (xs : List X) → ((x : X) → Among x xs → P x) → Each P xs
-  each_of P [] h = tt
-  each_of P (x ∷ xs) h = (h x (inl refl), each_of P xs (λ y a. h y (inr a)))
-
   -- of two elements the earlier is before the later
   pub rising_at : (lt : X → X → Bool) (xs : List X) (i k : ℕ) (x y : X) → IsRising lt xs → slice_get xs i ≡ Some x → slice_get xs k ≡ Some y → i < k → lt x y ≡ true
   rising_at lt [] i k x y h a b l = absurd (none-some x a)
   rising_at lt (z ∷ zs) i zero x y h a b l = absurd (omega (arith, l))
   rising_at lt (z ∷ zs) zero (suc k) x y h a b l =
-      subst (λ (w : X). lt w y ≡ true) (same_Some z x a) (each_at (λ (w : X). lt z w ≡ true) zs k y h.0 b)
+      subst (λ (w : X). lt w y ≡ true) (same_Some z x a) (each_read (λ (w : X). lt z w ≡ true) zs k y h.0 b)
   rising_at lt (z ∷ zs) (suc i) (suc k) x y h a b l = rising_at lt zs i k x y h.1 a b (omega (arith, l))
 
 text_stop : IsOrder point_lt (λ (x : Point) (y : Point). same x.stop y.stop)
@@ -62,10 +50,6 @@ rising_once lt tie order xs x y rise a b t =
     let i = at_among xs x a in
     let k = at_among xs y b in
     read_once xs i.0 k.0 x y (rising_place lt tie order xs i.0 k.0 x y rise i.1 k.1 t) i.1 k.1
-
--- a number below the next one is at most the one
-pub up_to : (k n : ℕ) → k < n + 1 → k ≤ n
-up_to k n h = omega (arith, h)
 
 -- at most one of the points that rise by reference is at the stop
 one_listed : (stop : Text) (points : List Point) → IsRising point_lt points → filter (λ (point : Point). same stop point.stop) points ≡ option_to_list (find (λ (point : Point). same stop point.stop) points)

@@ -6,9 +6,10 @@ use Rattle.std.specs.List.Sorted.{IsSortedBy}
 use Rattle.std.proofs.lemmas.Bool.{cases_Bool}
 use Rattle.std.proofs.lemmas.List.Sorted.{sorted_far}
 use Rattle.std.proofs.lemmas.List.Sums.{sum_by-cons}
+use Rattle.ojp_values.proofs.ListFacts.{each_at}
+use Rattle.ojp_values.proofs.EachFacts.{each_of}
 use Rattle.ojp_values.specs.Lists.{Among, Each, IsRising}
 use Rattle.ojp_timetable.proofs.Orders.{IsOrder}
-use Rattle.ojp_exchange.proofs.RisingFacts.{each_among, each_of}
 
 one_if : (b : Bool) → b ≡ true → ◌≡◌ {A = ℕ} (cond b 1 0) 1
 one_if true e = refl
@@ -27,6 +28,14 @@ module _ {X : Type 0} where
 
   pub count_more : (p : X → Bool) (x : X) (xs : List X) → count_by p xs ≤ count_by p (x ∷ xs)
   count_more p x xs = elim (cases_Bool (p x)) [ inl t ↦ omega (arith, count_yes p x xs t) | inr t ↦ omega (arith, count_no p x xs t) ]
+
+  pub count_within : (p : X → Bool) (xs : List X) → count_by p xs ≤ length xs
+  count_within p [] = omega arith
+  count_within p (x ∷ xs) =
+      elim (cases_Bool (p x)) [
+        | inl t ↦ omega (arith, count_yes p x xs t, count_within p xs)
+        | inr t ↦ omega (arith, count_no p x xs t, count_within p xs)
+      ]
 
   pub count_none : (p : X → Bool) (xs : List X) → ((x : X) → Among x xs → p x ≡ false) → count_by p xs ≡ 0
   count_none p [] h = refl
@@ -92,7 +101,7 @@ module _ {X : Type 0} (lt tie : X → X → Bool) (order : IsOrder lt tie) where
         let none : count_by (tie x) xs ≤ 0 = omega (arith, few x, count_yes (tie x) x xs (order.itself x)) in
         let apart = none_counted (tie x) xs y none a in
         let back : tie y x ≡ false = elim (cases_Bool (tie y x)) [ inl t ↦ absurd (true≢false (sym (order.back y x t) ∙ apart)) | inr t ↦ t ] in
-        order.other y x (each_among (λ (w : X). lt w x ≡ false) xs y h.0 a) back),
+        order.other y x (each_at (λ (w : X). lt w x ≡ false) y xs h.0 a) back),
     rising_from xs h.1 (λ z. omega (arith, few z, count_more (tie z) x xs)),
   )
 
@@ -101,7 +110,7 @@ module _ {X : Type 0} (lt tie : X → X → Bool) (order : IsOrder lt tie) where
   rising_counts (x ∷ xs) h z = elim (cases_Bool (tie z x)) [
     | inl t ↦
         let none = count_none (tie z) xs (λ y a. elim (cases_Bool (tie z y)) [
-          | inl s ↦ absurd (order.apart x y (each_among (λ (w : X). lt x w ≡ true) xs y h.0 a) (order.ties x z y (order.back z x t) s))
+          | inl s ↦ absurd (order.apart x y (each_at (λ (w : X). lt x w ≡ true) y xs h.0 a) (order.ties x z y (order.back z x t) s))
           | inr s ↦ s
         ]) in
         omega (arith, count_yes (tie z) x xs t, none)

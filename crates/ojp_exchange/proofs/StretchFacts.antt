@@ -1,9 +1,10 @@
 -- The points at a stop stand together.
-use Rattle.std.proofs.Common.{◌≡◌, ℕ, zero, suc, ◌+◌, ◌-◌, ◌<◌, ◌≤◌, ◌||◌, ◌&&◌, ◌⊎◌, Bool, true, false, cond, List, [], ◌∷◌, Some, length, map, take, drop, refl, sym, ◌∙◌, ap, subst, arith, slice_get, slice_range, inl, inr, true≢false}
+use Rattle.std.proofs.Common.{◌≡◌, ℕ, zero, suc, ◌+◌, ◌-◌, ◌<◌, ◌≤◌, ◌&&◌, Bool, true, false, cond, List, [], ◌∷◌, Some, length, map, take, drop, refl, sym, ◌∙◌, ap, subst, arith, slice_get, slice_range, inl, inr, true≢false}
 use Rattle.std.specs.List.{filter}
-use Rattle.std.proofs.lemmas.Bool.{cases_Bool, cases_lt}
+use Rattle.std.proofs.lemmas.Bool.{cases_Bool, cases_lt, or_cases}
 use Rattle.std.proofs.lemmas.Option.{slice_get_within}
 use Rattle.std.proofs.Math.Nat.{eq-or-lt_of_le}
+use Rattle.ojp_values.proofs.EachFacts.{up_to}
 use Rattle.ojp_values.specs.Lists.{IsRising}
 use Rattle.ojp_values.specs.Texts.{Text, same, text_lt}
 use Rattle.ojp_values.specs.declared.trips.Point.{Point}
@@ -14,7 +15,7 @@ use Rattle.ojp_timetable.proofs.TextFacts.{is_same, same_is}
 use Rattle.ojp_exchange.specs.Book.{Spot}
 use Rattle.ojp_exchange.specs.Kept.{HasNoPoint, IsPointAt, book_of, entry_lt, regions_of, spot_of}
 use Rattle.ojp_exchange.specs.Points.{AreParted, IsStretch}
-use Rattle.ojp_exchange.proofs.RisingFacts.{rising_at, up_to}
+use Rattle.ojp_exchange.proofs.RisingFacts.{rising_at}
 
 -- the points before low are at earlier stops, and those from high on are not
 pub record ArePartedBy (points : List Point) (stop : Text) (low high : ℕ) : Type 0 where
@@ -22,10 +23,6 @@ pub record ArePartedBy (points : List Point) (stop : Text) (low high : ℕ) : Ty
   pub within : high ≤ length points
   pub below : (k : ℕ) (x : Point) → slice_get points k ≡ Some x → k < low → text_lt x.stop stop ≡ true
   pub above : (k : ℕ) (x : Point) → slice_get points k ≡ Some x → high ≤ k → text_lt x.stop stop ≡ false
-
-or_cases : (a b : Bool) → a || b ≡ true → (a ≡ true) ⊎ (b ≡ true)
-or_cases true b h = inl refl
-or_cases false b h = inr h
 
 -- a later point is at the same stop or at a later one
 pub stop_before : (x y : Point) (stop : Text) → entry_lt x y ≡ true → text_lt y.stop stop ≡ true → text_lt x.stop stop ≡ true

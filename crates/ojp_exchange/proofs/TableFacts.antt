@@ -3,8 +3,8 @@ use Rattle.std.proofs.Common.{◌≡◌, ℕ, zero, suc, ◌+◌, ◌-◌, ◌<�
 use Rattle.std.proofs.lemmas.List.{drop-append-le, get_or_append_left, get_or_default, length-append, take-append-le}
 use Rattle.std.proofs.Math.Seq.{drop-append_seam, get_or-append_seam}
 use Rattle.std.proofs.Math.Nat.{eq-or-lt_of_le}
+use Rattle.ojp_values.proofs.EachFacts.{up_to}
 use Rattle.ojp_values.specs.Lists.{Among}
-use Rattle.ojp_exchange.proofs.RisingFacts.{up_to}
 use Rattle.ojp_exchange.specs.Tables.{AreParts, IsPart, part}
 
 module _ {X : Type 0} where

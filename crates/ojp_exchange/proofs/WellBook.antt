@@ -2,6 +2,7 @@
 use Rattle.std.proofs.Common.{◌≡◌, ◌≢◌, arith, true, List, sym, ◌∙◌, subst}
 use Rattle.std.specs.List.{All}
 use Rattle.std.proofs.lemmas.Option.{get_or_from_slice_get, slice_get_within}
+use Rattle.ojp_values.proofs.ListFacts.{each_at}
 use Rattle.ojp_values.specs.Limits.{IsChange, IsWellNeighbour, IsWellPoint}
 use Rattle.ojp_values.specs.Lists.{Among}
 use Rattle.ojp_values.specs.Texts.{Text, is_exchange, same}
@@ -13,7 +14,6 @@ use Rattle.ojp_exchange.specs.Book.{Spot}
 use Rattle.ojp_exchange.specs.Kept.{AreKept, IsSound, IsWellBook, book_of, spot_of}
 use Rattle.ojp_exchange.proofs.MadeFacts.{among_map, count_map, links_rise, map_among, spots_rise}
 use Rattle.ojp_exchange.proofs.JoinFacts.{link_says}
-use Rattle.ojp_exchange.proofs.RisingFacts.{each_among}
 
 all_among : (P : Neighbour → Type 0) (ns : List Neighbour) (n : Neighbour) → All P ns → Among n ns → P n
 all_among P ns n h a =
@@ -29,21 +29,21 @@ well_book codes points kept sound = record {
   few = λ region. omega (arith, kept.few region, count_map spot_of (λ (spot : Spot). same region spot.region) points);
   exchange = λ spot a.
       let at = among_map spot_of points spot a in
-      subst (λ (s : Spot). is_exchange s.stop ≡ true) at.2 (each_among (λ (x : Point). IsPointOf x.region x) points at.0 kept.own at.1).exchange;
+      subst (λ (s : Spot). is_exchange s.stop ≡ true) at.2 (each_at (λ (x : Point). IsPointOf x.region x) at.0 points kept.own at.1).exchange;
   known = λ spot a.
       let at = among_map spot_of points spot a in
-      subst (λ (s : Spot). Among s.region codes) at.2 (each_among (λ (x : Point). Among x.region codes) points at.0 kept.known at.1);
+      subst (λ (s : Spot). Among s.region codes) at.2 (each_at (λ (x : Point). Among x.region codes) at.0 points kept.known at.1);
   spot_times = λ spot a.
       let at = among_map spot_of points spot a in
-      subst (λ (s : Spot). IsChange s.change) at.2 (each_among IsWellPoint points at.0 kept.bounded at.1).0;
+      subst (λ (s : Spot). IsChange s.change) at.2 (each_at IsWellPoint at.0 points kept.bounded at.1).0;
   link_times = λ link a.
       let says = link_says points link a in
-      let good = each_among IsWellPoint points says.point kept.bounded says.listed in
+      let good = each_at IsWellPoint says.point points kept.bounded says.listed in
       subst IsChange says.time (all_among IsWellNeighbour says.point.neighbours says.neighbour good.2 says.declared);
   differ = λ link a e.
       let says = link_says points link a in
-      let own = each_among (λ (x : Point). IsPointOf x.region x) points says.point kept.own says.listed in
-      each_among (λ (n : Neighbour). n.code ≢ says.point.region) says.point.neighbours says.neighbour own.others says.declared (says.code ∙ (e ∙ sym says.of));
+      let own = each_at (λ (x : Point). IsPointOf x.region x) says.point points kept.own says.listed in
+      each_at (λ (n : Neighbour). n.code ≢ says.point.region) says.neighbour says.point.neighbours own.others says.declared (says.code ∙ (e ∙ sym says.of));
   declaring = λ link a.
       let says = link_says points link a in
       (spot_of says.point, map_among spot_of points says.point says.listed, says.at, says.of);

@@ -6,7 +6,7 @@ use Rattle.ojp_values.specs.Texts.{Text, same}
 use Rattle.ojp_values.specs.declared.trips.Neighbour.{Neighbour}
 use Rattle.ojp_values.specs.declared.trips.Point.{Point}
 use Rattle.ojp_values.specs.declared.replies.Delivery.{Delivery}
-use Rattle.ojp_values.proofs.ListFacts.{Member, among_map, among_map_back, among_flat_map}
+use Rattle.ojp_values.proofs.ListFacts.{Member, among_map, among_map_back, among_flat_map, each_at}
 use Rattle.ojp_timetable.specs.Tables.{Timetable}
 use Rattle.ojp_timetable.specs.Journeys.{Declares}
 use Rattle.ojp_timetable.specs.Points.{AreWellPoints, IsPointOf, neighbour_lt, point_lt}
@@ -19,7 +19,7 @@ use Rattle.ojp_exchange.specs.Kept.{ArePointsOf, Says, link_of, links_of, points
 use Rattle.ojp_exchange.proofs.BookFacts.{LinkOf, SpotTable, link_declares, link_listed, one_table, spot_listed, spot_table}
 use Rattle.ojp_exchange.proofs.JoinFacts.{link_says}
 use Rattle.ojp_exchange.proofs.PlaceFacts.{only_point}
-use Rattle.ojp_exchange.proofs.RisingFacts.{each_among, rising_once}
+use Rattle.ojp_exchange.proofs.RisingFacts.{rising_once}
 use Rattle.ojp_records.specs.Headline.{AreTablesOf}
 use Rattle.ojp_gateway.specs.Answers.{PointsByBook, delivery_of_points}
 
@@ -33,12 +33,12 @@ module _ {X : Type 0} (lt tie : X → X → Bool) (order : IsOrder lt tie) where
   first_alike x y xs ys a b (inl e) back = e
   first_alike x y xs ys a b (inr h) (inl e) = sym e
   first_alike x y xs ys a b (inr h) (inr k) =
-      absurd (not_before x (order.carried x y x (each_among (λ (z : X). lt x z ≡ true) xs y a.0 k) (each_among (λ (z : X). lt y z ≡ true) ys x b.0 h)))
+      absurd (not_before x (order.carried x y x (each_at (λ (z : X). lt x z ≡ true) y xs a.0 k) (each_at (λ (z : X). lt y z ≡ true) x ys b.0 h)))
 
   later_alike : (x y z : X) (xs ys : List X) → x ≡ y → IsRising lt (x ∷ xs) → Among z xs → Among z (y ∷ ys) → Among z ys
   later_alike x y z xs ys first a h (inr k) = k
   later_alike x y z xs ys first a h (inl e) =
-      absurd (not_before x (subst (λ (w : X). lt x w ≡ true) (e ∙ sym first) (each_among (λ (w : X). lt x w ≡ true) xs z a.0 h)))
+      absurd (not_before x (subst (λ (w : X). lt x w ≡ true) (e ∙ sym first) (each_at (λ (w : X). lt x w ≡ true) z xs a.0 h)))
 
   pub alike : (xs ys : List X) → IsRising lt xs → IsRising lt ys → ((x : X) → Among x xs → Among x ys) → ((x : X) → Among x ys → Among x xs) → xs ≡ ys
   alike [] [] a b f back = refl
@@ -109,8 +109,8 @@ module _ (tables : List Timetable) (book : Book) (points : List Point) (whole : 
 
     same_point : y ≡ x
     same_point =
-        let mine : IsPointOf table.region x = each_among (IsPointOf table.region) table.points x (well_points table h).each declared in
-        let own : IsPointOf y.region y = each_among (λ (p : Point). IsPointOf p.region p) points y are.kept.own listed in
+        let mine : IsPointOf table.region x = each_at (IsPointOf table.region) x table.points (well_points table h).each declared in
+        let own : IsPointOf y.region y = each_at (λ (p : Point). IsPointOf p.region p) y points are.kept.own listed in
         let of : y.region ≡ x.region = region ∙ sym mine.of_region in
         let time : y.change ≡ x.change = same_change in
         let others : y.neighbours ≡ x.neighbours =

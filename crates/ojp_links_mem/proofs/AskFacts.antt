@@ -3,13 +3,13 @@ use Rattle.std.proofs.Common.{◌≡◌, ℕ, zero, suc, ◌<◌, ◌≤◌, tru
 use Rattle.std.proofs.lemmas.Option.{none-some}
 use Rattle.slab.specs.Slab.{Slab, get}
 use Rattle.ojp_outside.specs.Causes.{next_count}
+use Rattle.ojp_values.proofs.EachFacts.{each_read}
 use Rattle.ojp_values.specs.Lists.{Each}
 use Rattle.ojp_http.specs.declared.refusal.HttpRefusal.{HttpRefusal}
 use Rattle.ojp_http.specs.Serving.{RespondsWith, refusal_name, refusal_status, response}
 use Rattle.ojp_grammar.specs.Answering.{AnswersBody}
 use Rattle.ojp_timetable.specs.Tables.{Timetable}
 use Rattle.ojp_timetable.specs.Answers.{RegionAnswers}
-use Rattle.ojp_exchange.proofs.RisingFacts.{each_at}
 use Rattle.ojp_links.specs.declared.links.AskRefused.TheVariants as refused
 use Rattle.ojp_links.specs.declared.links.More.{More}
 use Rattle.ojp_links.specs.declared.links.More.TheVariants as mores
@@ -130,7 +130,7 @@ pub answer_below : (m : Inside) (region number : ℕ) (said : Option What) → I
 answer_below m region number said whole below e =
     let it = region_there m.regions.items region below in
     let of_table : it.0.table ≡ Some number = sym (ap table_number it.1) ∙ answering_some said (table_number (slice_get m.regions.items region)) number e in
-    number_below (length m.servers.items) it.0 number (each_at (IsNumbered (length m.servers.items)) m.regions.items region it.0 whole.numbered it.1) of_table
+    number_below (length m.servers.items) it.0 number (each_read (IsNumbered (length m.servers.items)) m.regions.items region it.0 whole.numbered it.1) of_table
 
 pub table_there : (tables : List Timetable) (number : ℕ) → number < length tables → (table : Timetable) × (slice_get tables number ≡ Some table)
 table_there [] number below = absurd (omega (arith, below))
@@ -193,7 +193,7 @@ whole_refused m n whole terms regions patience asks =
 told_answers : (m : Inside) (region : ℕ) (said : Option What) → IsWhole m → region < length m.regions.items → said ≡ None → answering said (table_number (slice_get m.regions.items region)) ≡ None → m.tells_servers ≡ true → ⊥
 told_answers m region said whole below unsaid none tells =
     let it = region_there m.regions.items region below in
-    let told : IsToldOf it.0 = each_at IsToldOf m.regions.items region it.0 (whole.told tells) it.1 in
+    let told : IsToldOf it.0 = each_read IsToldOf m.regions.items region it.0 (whole.told tells) it.1 in
     let gone : it.0.table ≡ None = sym (ap table_number it.1) ∙ (sym (ap (λ (s : Option What). answering s (table_number (slice_get m.regions.items region))) unsaid) ∙ none) in
     absurd (true≢false (sym told.has_table ∙ ap (λ (o : Option ℕ). is_some o) gone))
 

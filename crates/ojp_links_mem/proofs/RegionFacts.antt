@@ -4,10 +4,10 @@ use Rattle.std.proofs.lemmas.Bool.{cases_eq}
 use Rattle.std.proofs.lemmas.List.{length-map}
 use Rattle.std.proofs.lemmas.Option.{get_or_from_slice_get, none-some, same_Some, slice_get-map}
 use Rattle.ojp_outside.specs.Causes.{Rose, next_count}
+use Rattle.ojp_values.proofs.EachFacts.{each_read}
 use Rattle.ojp_values.specs.Lists.{Among, Each}
 use Rattle.ojp_timetable.specs.Tables.{Timetable}
 use Rattle.ojp_timetable.specs.Runs.{IsWell}
-use Rattle.ojp_exchange.proofs.RisingFacts.{each_at}
 use Rattle.ojp_links.specs.Seen.{Station}
 use Rattle.ojp_links.proofs.MoreFacts.{length_more}
 use Rattle.ojp_links_mem.specs.Regions.{ChangesAt, DoesNotFall, count_at, fault_count, in_front, number_of_table, region_at, regions_from, station_of, table_at, tables_of}
@@ -62,8 +62,8 @@ changed_each P change old new at c h all = each_from P new (λ k r e. elim (case
   | inl same ↦
       let here : option_map change (slice_get old at) ≡ Some r = sym c.here ∙ subst (λ (n : ℕ). slice_get new n ≡ Some r) same e in
       let was = was_changed change (slice_get old at) r here in
-      subst P (sym was.is) (h was.before (each_at P old at was.before all was.at))
-  | inr ne ↦ each_at P old k r all (sym (c.others k ne) ∙ e)
+      subst P (sym was.is) (h was.before (each_read P old at was.before all was.at))
+  | inr ne ↦ each_read P old k r all (sym (c.others k ne) ∙ e)
 ])
 
 -- ---- counts
@@ -175,7 +175,7 @@ among_front (Some t) tables table a first rest = elim a [ inl e ↦ first (ap So
 
 well_at : (tables : List Timetable) (number : Option ℕ) (table : Timetable) → Each IsWell tables → table_at tables number ≡ Some table → IsWell table
 well_at tables None table well e = absurd (none-some table e)
-well_at tables (Some k) table well e = each_at IsWell tables k table well e
+well_at tables (Some k) table well e = each_read IsWell tables k table well e
 
 -- each is well
 pub tables_well : (tables : List Timetable) (regions : List Region) (table : Timetable) → Each IsWell tables → Among table (tables_of tables regions) → IsWell table

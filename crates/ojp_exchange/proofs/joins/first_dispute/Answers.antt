@@ -1,11 +1,11 @@
 use Rattle.std.proofs.Common.{◌<◌, ℕ, length, arith, refl, subst, sym, inl, inr}
 use Rattle.std.proofs.Math.Nat.{eq-or-lt_of_le}
+use Rattle.ojp_values.proofs.EachFacts.{up_to}
 use Rattle.ojp_values.specs.declared.trips.Point.{Point}
 use Rattle.std.proofs.lemmas.Option.{slice_get_read, slice_get_within}
 use Rattle.ojp_timetable.proofs.ReadFacts.{at_among, read_once}
 use Rattle.ojp_exchange.specs.Disputes.{AllReturn}
 use Rattle.ojp_exchange.specs.Points.{IsStretch}
-use Rattle.ojp_exchange.proofs.RisingFacts.{up_to}
 use Rattle.ojp_exchange.proofs.StretchFacts.{stretch_next}
 use Rattle.ojp_exchange.proofs.joins.first_dispute.Goals as goal
 use Rattle.ojp_exchange.proofs.joins.first_dispute.Goals.{then-place-to, else-place-to}

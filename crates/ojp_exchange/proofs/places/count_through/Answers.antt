@@ -1,11 +1,11 @@
 use Rattle.std.proofs.Common.{◌≡◌, true, length, arith, refl, sym, ◌∙◌, subst, inl, inr}
 use Rattle.std.proofs.Math.Nat.{eq-or-lt_of_le}
 use Rattle.std.proofs.lemmas.Option.{slice_get_read}
+use Rattle.ojp_values.proofs.EachFacts.{up_to}
 use Rattle.ojp_values.specs.Texts.{same}
 use Rattle.ojp_values.specs.declared.trips.Point.{Point}
 use Rattle.ojp_timetable.proofs.ReadFacts.{read_once}
 use Rattle.ojp_exchange.proofs.StretchFacts.{stretch_end, stretch_to}
-use Rattle.ojp_exchange.proofs.RisingFacts.{up_to}
 use Rattle.ojp_exchange.proofs.places.count_through.Goals as goal
 
 pub returns-then-not-is_at : goal.returns-then-not-is_at

@@ -1,8 +1,8 @@
 use Rattle.std.proofs.Common.{Some, length, refl, sym, ◌∙◌, ap, arith, inl, inr}
 use Rattle.std.proofs.Math.Nat.{eq-or-lt_of_le}
 use Rattle.std.proofs.lemmas.Option.{slice_get_read, slice_get_within}
+use Rattle.ojp_values.proofs.EachFacts.{up_to}
 use Rattle.ojp_timetable.proofs.ReadFacts.{read_once}
-use Rattle.ojp_exchange.proofs.RisingFacts.{up_to}
 use Rattle.ojp_exchange.proofs.places.number_of.Goals as goal
 
 pub returns-then-is_code : goal.returns-then-is_code

@@ -1,6 +1,7 @@
 use Rattle.std.proofs.Common.{◌≡◌, ℕ, ◌+◌, ◌<◌, ◌≤◌, ◌++◌, ◌∷◌, [], List, get_or, length, refl, sym, ◌∙◌, ap, subst, arith}
 use Rattle.std.specs.Prelude.{MatchOption}
 use Rattle.std.proofs.lemmas.Option.{slice_get_read}
+use Rattle.ojp_values.proofs.ListFacts.{each_at}
 use Rattle.ojp_values.specs.Texts.{Text}
 use Rattle.ojp_values.specs.declared.trips.Neighbour.{Neighbour}
 use Rattle.ojp_values.specs.declared.trips.Point.{Point}
@@ -11,7 +12,6 @@ use Rattle.ojp_exchange.specs.declared.spots.Edge.{Edge}
 use Rattle.ojp_exchange.specs.Points.{HasNeighbour, HasNoNeighbour}
 use Rattle.ojp_exchange.specs.Places.{edge_to}
 use Rattle.ojp_exchange.proofs.ChangeFacts.{AreChangesTo, all_there, none_there, one_there}
-use Rattle.ojp_exchange.proofs.RisingFacts.{each_among}
 use Rattle.ojp_exchange.proofs.TableFacts.{pushed_one}
 use Rattle.ojp_exchange.proofs.tables.add_edges.Goals as goal
 use Rattle.ojp_exchange.proofs.tables.add_edges.Goals.{in-Some+else-is_err, in_default}
@@ -29,7 +29,7 @@ others-preserved c =
     let within : other < length points = omega (arith, c.others-test.true, stretch.within) in
     let there_at = slice_get_read points (length points) other there refl within c.index-points-other.is in
     let low : from ≤ other = omega (arith, c.others.auto.other) in
-    let own = each_among (λ (point : Point). IsPointOf point.region point) points there c.requires.order.own (among_at points other there there_at) in
+    let own = each_at (λ (point : Point). IsPointOf point.region point) there points c.requires.order.own (among_at points other there there_at) in
     let stop_is = sym (same_is here.stop there.stop (stretch.inside other there there_at low c.others-test.true)) in
     let said = subst (λ (code : Text). MatchOption c.change_among.result (HasNoNeighbour there.neighbours code) (HasNeighbour there.neighbours code)) (ap (λ (p : Point). p.region) (sym c.index-points-place.is))
     (subst (λ (xs : List Neighbour). MatchOption c.change_among.result (HasNoNeighbour xs (get_or points place here).region) (HasNeighbour xs (get_or points place here).region))
