@@ -39,5 +39,5 @@ fn journeys_are_told(table: &Timetable) -> bool {
     if table.journeys() != 1 {
         return false;
     }
-    table.journey(0).calls == 2 && table.calls(0).len() == 2
+    table.journey(0).calls == 2
 }

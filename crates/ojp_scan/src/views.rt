@@ -3,7 +3,7 @@
 ghost use Rattle.std.specs.Prelude.{◌≡◌, ◌<◌, Some, length};
 ghost use Rattle.ojp_timetable.specs.Runs.{IsWell};
 ghost use Rattle.ojp_scan.specs.Networks.{place_number};
-ghost use Rattle.ojp_scan.specs.Views.{IsJourneyAt, IsInJourney, AreCallsOf, IsCallOf, IsPlaceOf};
+ghost use Rattle.ojp_scan.specs.Views.{IsJourneyAt, IsInJourney, IsCallOf, IsPlaceOf};
 
 use ojp_timetable::{Call, JourneyView, Timetable};
 use ojp_values::StopRef;
@@ -14,14 +14,6 @@ pub fn journey_at(table: &Timetable, i: usize) -> JourneyView
     ensures { IsJourneyAt table.now i result }
 {
     table.journey(i)
-}
-
-/// The calls of the journey of that number.
-pub fn calls_of(table: &Timetable, i: usize) -> &[Call]
-    requires { i < length table.now.journeys }
-    ensures { AreCallsOf table.now i result.now }
-{
-    table.calls(i)
 }
 
 /// The call at that position, from 0, of the journey of that number.

@@ -44,9 +44,10 @@ fn add_journey(
     requires before { AreFirst table.now ask.now journey 0 0 first.old.items }
     ensures { OnOk result (AreFirst table.now ask.now (journey + 1) 0 0 first.new.items) }
 {
-    let calls = table.calls(journey);
-    'calls: for position in 0..calls.len() {
-        if is_at_stop(&calls[position], ask) {
+    let calls = table.journey(journey).calls;
+    'calls: for position in 0..calls {
+        let call = table.call(journey, position);
+        if is_at_stop(&call, ask) {
             add_call(table, ask, journey, position, first)?;
         }
     }

@@ -4,12 +4,13 @@ use Rattle.std.specs.Prelude.{Option, Some, None, Result, Ok, Err, IsSome, IfOk,
 use Rattle.std.proofs.lemmas.Bool.{cases_Bool, eqb-true}
 use Rattle.ojp_values.specs.Texts.{Text, same}
 use Rattle.ojp_zones.specs.Numbers.{number}
-use Rattle.ojp_timetable.specs.Said.{begins_call, call_fields, call_said, called, entry_fields, entry_said, header_said, is_call_line, is_dash, may_call, offset, region_said, said, valued, word_of, zone_said}
+use Rattle.ojp_timetable.specs.Said.{begins_call, call_fields, call_said, called, entry_fields, found_said, entry_said, header_said, is_call_line, is_dash, may_call, offset, region_said, said, valued, word_of, zone_said}
 use Rattle.ojp_timetable.specs.Fields.{body, fields_of}
 use Rattle.ojp_timetable.specs.Checks.{checked, checks, first_failing, is_long, read_line, verdict}
 use Rattle.ojp_timetable.specs.Lines.{Above}
 use Rattle.ojp_timetable.specs.Tables.{Call}
 use Rattle.ojp_timetable.specs.WellContents.{GoesOnFrom}
+use Rattle.ojp_timetable.specs.declared.kept.FoundCall.{FoundCall}
 use Rattle.ojp_timetable.specs.declared.lines.Line.TheVariants as Line
 use Rattle.ojp_timetable.specs.declared.lines.TableReason.{TableReason}
 use Rattle.ojp_timetable.specs.declared.words.Word.{Word}
@@ -106,3 +107,7 @@ fields_behind before rest (Some field) e = sym (ap (λ (fields : List Text). dro
 pub failed : (read : Result Call TableReason) (reason : TableReason) → IsErrAnd read (λ e. e ≡ reason) → called read ≡ Err reason
 failed (Err e) reason h = ap Err h
 failed (Ok call) reason h = absurd h
+
+pub failed_found : (read : Result FoundCall TableReason) (reason : TableReason) → IsErrAnd read (λ e. e ≡ reason) → found_said read ≡ Err reason
+failed_found (Err e) reason h = ap Err h
+failed_found (Ok found) reason h = absurd h

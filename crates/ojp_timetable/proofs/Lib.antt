@@ -7,6 +7,7 @@ pub mod AnswerFacts
 pub mod FieldFacts
 pub mod MarkFacts
 pub mod MapFacts
+pub mod StopFacts
 pub mod CallFacts
 pub mod CallRowFacts
 pub mod PointFacts

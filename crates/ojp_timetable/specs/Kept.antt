@@ -1,8 +1,10 @@
 -- What is kept of the contents: entries by their names, and the calls of all journeys in one row.
-use Rattle.std.specs.Prelude.{ℕ, ◌≤◌, ◌≡◌, List, [], ◌∷◌, Option, Some, None, drop, slice_range, slice_get, option_map, unwrap_or}
+use Rattle.std.specs.Prelude.{ℕ, ◌≤◌, ◌<◌, ◌≡◌, List, length, [], ◌∷◌, Option, Some, None, drop, slice_range, slice_get, option_map, unwrap_or}
 use Rattle.ojp_values.specs.Texts.{Text}
 use Rattle.ojp_timetable.specs.Tables.{Place, Service, Journey, Call}
 use Rattle.ojp_timetable.specs.declared.kept.PlaceFacts.{PlaceFacts}
+use Rattle.ojp_timetable.specs.declared.kept.FoundCall.{FoundCall}
+use Rattle.ojp_timetable.specs.declared.kept.KeptCall.{KeptCall}
 use Rattle.ojp_timetable.specs.declared.kept.Head.{Head}
 use Rattle.ojp_timetable.specs.declared.lines.Dates.{Dates}
 
@@ -16,6 +18,31 @@ place_kept entry = record { stop = entry.0; change = entry.1.change; name = entr
 -- what is kept of a place beside its stop
 abbrev pub facts_of : Place → PlaceFacts
 facts_of place = record { change = place.change; name = place.name }
+
+-- stops, and calls at them
+pub record StopsAndCalls : Type 0 where
+  pub places : List Place
+  pub calls : List Call
+
+abbrev pub no_stops : StopsAndCalls
+no_stops = record { places = []; calls = [] }
+
+-- the reference of the stop of that number
+abbrev pub stop_of : List Place → ℕ → Text
+stop_of places number = unwrap_or (option_map (λ (place : Place). place.stop) (slice_get places number)) []
+
+-- a call that is kept is at the stop of its number
+abbrev pub call_kept : List Place → KeptCall → Call
+call_kept places kept = record { stop = stop_of places kept.place; arrives = kept.arrives; departs = kept.departs }
+
+-- each call is at one of so many stops
+abbrev pub AreAtPlaces : ℕ → List KeptCall → Type 0
+AreAtPlaces places [] = Unit {0}
+AreAtPlaces places (kept ∷ more) = (kept.place < places) × AreAtPlaces places more
+
+-- the call is at the stop of its number
+abbrev pub IsAtPlace : List Place → FoundCall → Type 0
+IsAtPlace places found = (found.place < length places) × (stop_of places found.place ≡ found.call.stop)
 
 abbrev pub service_kept : Text × Dates → Service
 service_kept entry = record { id = entry.0; first = entry.1.first; last = entry.1.last; marks = entry.1.marks }

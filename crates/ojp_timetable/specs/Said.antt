@@ -9,6 +9,7 @@ use Rattle.ojp_zones.specs.Zones.{zone_of}
 use Rattle.ojp_zones.specs.declared.zone.Zone.{Zone as ZoneValue}
 use Rattle.ojp_timetable.specs.Fields.{fields_of, joined}
 use Rattle.ojp_timetable.specs.Tables.{Call}
+use Rattle.ojp_timetable.specs.declared.kept.FoundCall.{FoundCall}
 use Rattle.ojp_timetable.specs.declared.lines.Line.{Line}
 use Rattle.ojp_timetable.specs.declared.lines.Line.TheVariants as lines
 use Rattle.ojp_timetable.specs.declared.lines.Open.{Open}
@@ -104,6 +105,11 @@ call_said stop arrives departs =
 abbrev pub called : Result Call TableReason → Said
 called (Ok call) = Ok (lines.Call call)
 called (Err reason) = Err reason
+
+-- and so of a call whose stop was found
+abbrev pub found_said : Result FoundCall TableReason → Said
+found_said (Ok found) = Ok (lines.Call found.call)
+found_said (Err reason) = Err reason
 
 -- ---- the form of a line
 

@@ -1,16 +1,18 @@
 //! The lines above the next one.
-ghost use Rattle.std.specs.Prelude.{◌≡◌, ◌+◌, ◌<◌, ◌≤◌, ◌^◌, None, false, true, length, OnOk, IfOk, IfErr};
+ghost use Rattle.std.specs.Prelude.{◌≡◌, ◌+◌, ◌<◌, ◌≤◌, ◌^◌, None, Some, false, true, length, OnOk, IfOk, IfErr, IsSome};
 ghost use Rattle.ojp_timetable.specs.Fields.{body};
 ghost use Rattle.ojp_timetable.specs.Runs.{IsOffset};
-ghost use Rattle.ojp_timetable.specs.Said.{called, is_call_line};
+ghost use Rattle.ojp_timetable.specs.Kept.{IsAtPlace};
+ghost use Rattle.ojp_timetable.specs.Said.{found_said, is_call_line};
 ghost use Rattle.ojp_zones.specs.Noons.{IsZone};
 
 use crate::calls::Call;
 use crate::checks::{first_failing, first_failing_of_call};
 use crate::draft::Draft;
 use crate::fields::body;
+use crate::kept::FoundCall;
 use crate::lines::{Line, Open, TableReason};
-use crate::refusals::LineRefused;
+use crate::refusals::{LineRefused, TableRefused};
 use crate::said::{is_call_line, is_closed, left_by, left_open, read_call_line, read_said};
 use ojp_outside::FILE_LIMIT;
 use std::alloc::Global;
@@ -26,6 +28,18 @@ pub struct Above {
     bytes: u64,
     left: Open,
     draft: Draft,
+}
+
+// The call with the number of its stop.
+fn found(call: Call, place: Option<usize>) -> FoundCall
+    requires { IsSome place }
+    ensures call { result.call ≡ call }
+    ensures place { place ≡ Some result.place }
+{
+    match place {
+        Some(place) => FoundCall { call, place },
+        None => unreachable!(),
+    }
 }
 
 impl Model for Above {
@@ -56,6 +70,22 @@ impl Above {
             left: Open::Nothing,
             draft: Draft::new(alloc),
         }
+    }
+
+    /// No lines, with room for what those of so many bytes may declare.
+    pub fn with_room(alloc: Global, bytes: usize) -> Result<Above, TableRefused>
+        ensures none { IfOk result (λ above. above ≡ no_lines) }
+        ensures room { IfErr result (λ refused. refused ≡ TableRefused.NoMemory) }
+    {
+        let Ok(draft) = Draft::with_room(alloc, bytes) else {
+            return Err(TableRefused::NoMemory);
+        };
+        Ok(Above {
+            lines: 0,
+            bytes: 0,
+            left: Open::Nothing,
+            draft,
+        })
     }
 
     /// How many lines there are.
@@ -97,20 +127,23 @@ impl Above {
         }
     }
 
-    // The call that the line says, or the first check that it fails.
+    // The call that the line says with the number of its stop, or the first check that it fails.
     #[tactic(auto, unfolding(crate::specs::Checks::read_line))]
-    fn read_call(&self, text: &[u8]) -> Result<Call, TableReason>
+    fn read_call(&self, text: &[u8]) -> Result<FoundCall, TableReason>
         requires below { 3 ≤ self.now.lines }
         requires call { is_call_line (body text.now) ≡ true }
-        ensures value { called result ≡ read_line self.now text.now }
-        ensures within { IfOk result (λ call. IsOffset call.arrives × IsOffset call.departs) }
-        ensures stands { IfOk result (GoesOnFrom self.now.left) }
-        ensures passes { IfOk result (λ call. Passes self.now.contents self.now.left (Line.Call call)) }
+        ensures value { found_said result ≡ read_line self.now text.now }
+        ensures within { IfOk result (λ found. IsOffset found.call.arrives × IsOffset found.call.departs) }
+        ensures stands { IfOk result (λ found. GoesOnFrom self.now.left found.call) }
+        ensures passes { IfOk result (λ found. Passes self.now.contents self.now.left (Line.Call found.call)) }
+        ensures place { IfOk result (IsAtPlace self.now.contents.places) }
         ensures short { OnOk result (self.now.bytes + length text.now ≤ BYTES) }
     {
         let call = read_call_line(&self.left, body(text))?;
-        match first_failing_of_call(&self.draft, &self.left, self.is_long(text), &call) {
-            None => Ok(call),
+        let place = self.draft.place_number(&call.stop);
+        let is_known = place.is_some();
+        match first_failing_of_call(&self.draft, &self.left, self.is_long(text), is_known, &call) {
+            None => Ok(found(call, place)),
             Some(reason) => Err(reason),
         }
     }
@@ -125,17 +158,17 @@ impl Above {
         ensures refused { IfErr result (IsLineRefusal (read_line self.old text.now)) }
         ensures left { IfErr result (λ refused. self.new ≡ left_after self.old refused) }
     {
-        let call = match self.read_call(text) {
-            Ok(call) => call,
+        let found = match self.read_call(text) {
+            Ok(found) => found,
             Err(reason) => return Err(LineRefused::Reason(reason)),
         };
-        let Ok(()) = self.draft.add_call(&call) else {
+        let Ok(()) = self.draft.add_call(&found) else {
             *self = Above::new(alloc);
             return Err(LineRefused::NoMemory);
         };
         self.lines += 1;
         self.bytes += text.len() as u64;
-        self.left = left_by(call.departs);
+        self.left = left_by(found.call.departs);
         Ok(())
     }
 

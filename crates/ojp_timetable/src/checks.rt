@@ -3,6 +3,7 @@ ghost use Rattle.std.specs.Prelude.{◌≡◌, ◌≤◌, false, length, None, p
 ghost use Rattle.std.specs.List.{list_any, position_or_len};
 ghost use Rattle.ojp_values.specs.Texts.{code_part, is_colon, same};
 ghost use Rattle.ojp_values.specs.declared.trips.Neighbour.{Neighbour as NeighbourValue};
+ghost use Rattle.ojp_timetable.specs.Contents.{has_place};
 ghost use Rattle.ojp_timetable.specs.WellContents.{Passes};
 ghost use Rattle.ojp_timetable.specs.Checks.{checks, departed, falls_from, first_failing, has_neighbour, is_before, is_doubled, is_falling, is_foreign, is_full, is_stop_elsewhere, lacks_service, lacks_stop, later_of};
 
@@ -218,14 +219,17 @@ pub fn first_failing(draft: &Draft, left: &Open, is_long: bool, line: &Line) -> 
     None
 }
 
-/// The first check that a call fails, as `first_failing` says it of its line.
+/// The first check that a call fails, as `first_failing` says it of its line; `is_known` says whether
+/// its stop stands above.
 #[tactic(auto, unfolding(crate::specs::Checks::is_foreign, crate::specs::Checks::is_doubled, crate::specs::Checks::lacks_stop, crate::specs::Checks::lacks_service, crate::specs::Checks::is_falling, crate::specs::Checks::is_full))]
 pub fn first_failing_of_call(
     draft: &Draft,
     left: &Open,
     is_long: bool,
+    is_known: bool,
     call: &Call,
 ) -> Option<TableReason>
+    requires { is_known ≡ has_place draft.now call.now.stop }
     ensures value { result ≡ first_failing (checks draft.now left.now is_long (Line.Call call.now)) }
     ensures passes { result ≡ None → Passes draft.now left.now (Line.Call call.now) }
     ensures short { result ≡ None → is_long ≡ false }
@@ -233,7 +237,7 @@ pub fn first_failing_of_call(
     if is_stop_elsewhere(draft.region_text(), &call.stop) {
         return Some(TableReason::ForeignStop);
     }
-    if !draft.has_place(&call.stop) {
+    if !is_known {
         return Some(TableReason::UnknownStop);
     }
     if falls_from(departed(left), call) {

@@ -1,29 +1,36 @@
 //! What the lines of a file declare, while it grows.
-ghost use Rattle.std.specs.Prelude.{◌≡◌, ◌≤◌, false, ◌<◌, OnOk, OnErr, length, option_copied, find, bytes_eq, unwrap_or, option_map, position, slice_get, slice_range, IfSome, ◌^◌, [], ◌∷◌, ◌++◌};
+ghost use Rattle.std.specs.Prelude.{◌≡◌, ◌≤◌, false, true, ◌<◌, IfOk, OnOk, OnErr, is_some, length, option_copied, find, bytes_eq, unwrap_or, option_map, position, slice_get, IfSome, ◌^◌, [], ◌∷◌, ◌++◌};
 ghost use Rattle.ojp_timetable.specs.Kept.{end_at};
 ghost use Rattle.ojp_values.specs.declared.trips.Point.{Point as PointValue};
 ghost use Rattle.ojp_values.specs.declared.trips.Neighbour.{Neighbour as NeighbourValue};
 
 use crate::calls::Call;
-use crate::kept::{Head, JourneyView, PlaceFacts, PlaceView};
+use crate::checks::{CALLS, JOURNEYS, PLACES};
+use crate::kept::{FoundCall, Head, JourneyView, PlaceFacts, PlaceView};
 use crate::lines::{Dates, Line};
 use crate::point_lists::{insert_neighbour_at, insert_point};
+use crate::stops::Stops;
 use indexmap::IndexMap;
 use ojp_values::{Code, Label, List, Name, Neighbour, NoMemory, Point, StopRef};
 use ojp_zones::zone::Zone;
 use std::alloc::Global;
 use std::marker::Model;
 
+/// The bytes of `call A:b - 0` and its line feed: no line of a stop or a call has fewer.
+const LEAST_LINE: usize = 13;
+
+/// The bytes of `journey a b c` with its line feed and two calls: no journey has fewer.
+const LEAST_JOURNEY: usize = 40;
+
 /// What the lines above declare, seen as their contents.
 #[derive(Drop)]
 pub struct Draft {
     region: Option<Code>,
     zone: Zone,
-    places: IndexMap<StopRef, PlaceFacts>,
+    stops: Stops,
     points: Vec<Point>,
     services: IndexMap<Label, Dates>,
     journeys: IndexMap<Label, Head>,
-    calls: Vec<Call>,
 }
 
 // The exchange point of that reference.
@@ -81,39 +88,30 @@ fn view_of(entry: &(Label, Head), calls: usize) -> JourneyView
     }
 }
 
-// The calls from the one to the other.
-fn between(calls: &[Call], from: usize, to: usize) -> &[Call]
-    requires order { from ≤ to }
-    requires within { to ≤ length calls.now }
-    ensures { result.now ≡ slice_range calls.now from to }
-{
-    &calls[from..to]
-}
-
 impl Model for Draft {
     ghost use Rattle.std.specs.Prelude.{◌≡◌, map, length};
     ghost use Rattle.ojp_timetable.specs.Contents.{Contents};
 
     ghost Value = { Contents };
 
-    ghost use Rattle.ojp_timetable.specs.Kept.{region_kept, place_kept, service_kept, journeys_of, AreInRow};
+    ghost use Rattle.ojp_timetable.specs.Kept.{region_kept, service_kept, journeys_of, AreInRow};
 
     ghost view = { λ d. record {
       region = region_kept d.region;
       zone = d.zone;
-      places = map place_kept d.places.entries;
+      places = d.stops.places;
       points = d.points.items;
       services = map service_kept d.services.entries;
-      journeys = journeys_of d.journeys.entries d.calls.items;
+      journeys = journeys_of d.journeys.entries d.stops.calls;
     } };
 
-    ghost invariant = { λ d. AreInRow d.journeys.entries (length d.calls.items) };
+    ghost invariant = { λ d. AreInRow d.journeys.entries (length d.stops.calls) };
 }
 
 impl Draft {
     ghost use Rattle.ojp_timetable.specs.Contents.{Contents, no_contents, has_place, has_service, has_journey, service_number, neighbours_at, calls_in, with_call, with_neighbour, with_point, point_with};
-    ghost use Rattle.ojp_timetable.specs.Checks.{is_doubled};
-    ghost use Rattle.ojp_timetable.specs.Kept.{facts_of};
+    ghost use Rattle.ojp_timetable.specs.Checks.{is_doubled, lacks_stop};
+    ghost use Rattle.ojp_timetable.specs.Kept.{IsAtPlace, facts_of};
     ghost use Rattle.ojp_timetable.specs.Views.{calls_at, dates_of, place_view, view_of};
     ghost use Rattle.ojp_timetable.specs.Tables.{Journey as JourneyValue, Place as PlaceValue};
     ghost use Rattle.ojp_values.specs.Texts.{same};
@@ -129,12 +127,34 @@ impl Draft {
                 east: 0,
                 summer: None,
             },
-            places: IndexMap::new(alloc),
+            stops: Stops::new(alloc),
             points: Vec::new(alloc),
             services: IndexMap::new(alloc),
             journeys: IndexMap::new(alloc),
-            calls: Vec::new(alloc),
         }
+    }
+
+    /// Nothing is declared, with room for what the lines of a file of so many bytes may declare.
+    pub fn with_room(alloc: Global, bytes: usize) -> Result<Draft, NoMemory>
+        ensures { IfOk result (λ draft. draft ≡ no_contents) }
+    {
+        let lines = bytes / LEAST_LINE;
+        let stops = Stops::with_room(alloc, lines.min(PLACES), lines.min(CALLS))?;
+        let Ok(journeys) = IndexMap::with_capacity(alloc, (bytes / LEAST_JOURNEY).min(JOURNEYS))
+        else {
+            return Err(NoMemory);
+        };
+        Ok(Draft {
+            region: None,
+            zone: Zone {
+                east: 0,
+                summer: None,
+            },
+            stops,
+            points: Vec::new(alloc),
+            services: IndexMap::new(alloc),
+            journeys,
+        })
     }
 
     /// The bytes of the region's code, and none while it is not declared.
@@ -151,7 +171,7 @@ impl Draft {
     pub fn has_place(&self, stop: &StopRef) -> bool
         ensures { result ≡ has_place self.now stop.now }
     {
-        self.places.contains_key(stop)
+        self.stops.has(stop)
     }
 
     /// Whether the service stands above.
@@ -186,7 +206,7 @@ impl Draft {
     pub fn places(&self) -> usize
         ensures { result ≡ length self.now.places }
     {
-        self.places.len()
+        self.stops.places()
     }
 
     /// The number of exchange points.
@@ -214,7 +234,7 @@ impl Draft {
     pub fn calls(&self) -> usize
         ensures { result ≡ calls_in self.now }
     {
-        self.calls.as_slice().len()
+        self.stops.calls()
     }
 
     /// The region's code.
@@ -266,19 +286,13 @@ impl Draft {
     }
 
     // Adds a stop or an exchange point to the places.
+    #[tactic(auto, unfolding(crate::specs::Contents::has_place, ojp_values::specs::Texts::same))]
     fn push_place(&mut self, stop: &StopRef, change: u32, name: &Name) -> Result<(), NoMemory>
         requires { has_place self.old stop.now ≡ false }
         ensures value { OnOk result (self.new ≡ record self.old { places = self.old.places ++ record { stop = stop.now; change = change; name = name.now } ∷ [] }) }
         ensures kept { (self.new.region ≡ self.old.region) × (self.new.zone ≡ self.old.zone) }
     {
-        let facts = PlaceFacts {
-            change,
-            name: *name,
-        };
-        let Ok(_) = self.places.insert(*stop, facts) else {
-            return Err(NoMemory);
-        };
-        Ok(())
+        self.stops.push(stop, change, name)
     }
 
     /// Declares a stop, or an exchange point.
@@ -335,7 +349,7 @@ impl Draft {
         let head = Head {
             line: *line,
             service: self.service_number(service).unwrap_or(0),
-            first_call: self.calls.as_slice().len(),
+            first_call: self.stops.calls(),
         };
         let Ok(_) = self.journeys.insert(*id, head) else {
             return Err(NoMemory);
@@ -344,23 +358,47 @@ impl Draft {
     }
 
     /// Adds a call to the last journey.
-    pub fn add_call(&mut self, call: &Call) -> Result<(), NoMemory>
-        ensures value { OnOk result (self.new ≡ grown self.old (Line.Call call.now)) }
+    pub fn add_call(&mut self, found: &FoundCall) -> Result<(), NoMemory>
+        requires { IsAtPlace self.old.places found.now }
+        ensures value { OnOk result (self.new ≡ grown self.old (Line.Call found.now.call)) }
         ensures kept { (self.new.region ≡ self.old.region) × (self.new.zone ≡ self.old.zone) }
     {
         if self.journeys.is_empty() {
             return Ok(());
         }
-        let Ok(()) = self.calls.push(*call) else {
+        let Ok(()) = self.stops.push_call(found) else {
             return Err(NoMemory);
         };
         Ok(())
     }
 
+    // The call with the number of its stop.
+    fn found(&self, call: &Call) -> FoundCall
+        requires { has_place self.now call.now.stop ≡ true }
+        ensures place { IsAtPlace self.now.places result }
+        ensures call { result.call ≡ call.now }
+    {
+        match self.place_number(&call.stop) {
+            Some(place) => FoundCall { call: *call, place },
+            None => unreachable!(),
+        }
+    }
+
+    // Adds a call whose stop is looked up first.
+    fn add_any_call(&mut self, call: &Call) -> Result<(), NoMemory>
+        requires { has_place self.old call.now.stop ≡ true }
+        ensures value { OnOk result (self.new ≡ grown self.old (Line.Call call.now)) }
+        ensures kept { (self.new.region ≡ self.old.region) × (self.new.zone ≡ self.old.zone) }
+    {
+        let found = self.found(call);
+        self.add_call(&found)
+    }
+
     /// Declares what the line declares.
-    #[tactic(auto, unfolding(crate::specs::Checks::is_doubled))]
+    #[tactic(auto, unfolding(crate::specs::Checks::is_doubled, crate::specs::Checks::lacks_stop))]
     pub fn add(&mut self, alloc: Global, line: &Line) -> Result<(), NoMemory>
         requires new { is_doubled self.old line.now ≡ false }
+        requires stop { lacks_stop self.old line.now ≡ false }
         requires named { HasRegionFor self.old line.now }
         ensures value { OnOk result (self.new ≡ grown self.old line.now) }
         ensures kept { OnErr result ((self.new.region ≡ self.old.region) × (self.new.zone ≡ self.old.zone)) }
@@ -373,7 +411,7 @@ impl Draft {
             Line::Neighbour(stop, neighbour) => return self.add_neighbour(alloc, stop, neighbour),
             Line::Service(id, dates) => return self.add_service(id, dates),
             Line::Journey(id, service, line) => return self.add_journey(id, service, line),
-            Line::Call(call) => return self.add_call(call),
+            Line::Call(call) => return self.add_any_call(call),
         }
         Ok(())
     }
@@ -389,15 +427,16 @@ impl Draft {
     pub fn place_facts(&self, stop: &StopRef) -> Option<PlaceFacts>
         ensures { result ≡ option_map facts_of (find (λ (place : PlaceValue). bytes_eq stop.now place.stop) self.now.places) }
     {
-        self.places.get(stop).copied()
+        self.stops.facts(stop)
     }
 
     /// The number of the place, in the order of the file.
-    #[tactic(auto, unfolding(ojp_values::specs::Texts::same))]
+    #[tactic(auto, unfolding(crate::specs::Contents::has_place, ojp_values::specs::Texts::same))]
     pub fn place_number(&self, stop: &StopRef) -> Option<usize>
-        ensures { result ≡ position (λ (place : PlaceValue). bytes_eq stop.now place.stop) self.now.places }
+        ensures first { result ≡ position (λ (place : PlaceValue). bytes_eq stop.now place.stop) self.now.places }
+        ensures known { is_some result ≡ has_place self.now stop.now }
     {
-        self.places.get_index_of(stop)
+        self.stops.number(stop)
     }
 
     /// The exchange points by rising reference.
@@ -411,14 +450,7 @@ impl Draft {
     pub fn place_at(&self, i: usize) -> Option<PlaceView>
         ensures { result ≡ option_map place_view (slice_get self.now.places i) }
     {
-        match self.places.get_index(i) {
-            None => None,
-            Some((stop, facts)) => Some(PlaceView {
-                stop: *stop,
-                change: facts.change,
-                name: facts.name,
-            }),
-        }
+        self.stops.place_at(i)
     }
 
     /// The days of the service of that number.
@@ -431,19 +463,28 @@ impl Draft {
         }
     }
 
-    /// The calls of the journey of that number, and none where there is no such journey.
-    pub fn calls_at(&self, i: usize) -> &[Call]
-        ensures { result.now ≡ calls_at self.now.journeys i }
+    /// How many calls the journey of that number has, and 0 where there is no such journey.
+    pub fn calls_at(&self, i: usize) -> usize
+        ensures { result ≡ length (calls_at self.now.journeys i) }
     {
         let Some((_, head)) = head_at(&self.journeys, i) else {
-            return &[];
+            return 0;
         };
-        let calls = self.calls.as_slice();
-        between(
-            calls,
-            head.first_call,
-            end_at(&self.journeys, i, calls.len()),
-        )
+        end_at(&self.journeys, i, self.stops.calls()) - head.first_call
+    }
+
+    /// The call at that position of the journey of that number.
+    pub fn call_at(&self, i: usize, position: usize) -> Option<Call>
+        ensures { result ≡ slice_get (calls_at self.now.journeys i) position }
+    {
+        let Some((_, head)) = head_at(&self.journeys, i) else {
+            return None;
+        };
+        let end = end_at(&self.journeys, i, self.stops.calls());
+        if position >= end - head.first_call {
+            return None;
+        }
+        self.stops.call_at(head.first_call + position)
     }
 
     /// The journey of that number.
@@ -453,7 +494,7 @@ impl Draft {
         let Some(entry) = head_at(&self.journeys, i) else {
             return None;
         };
-        let calls = self.calls_at(i).len();
+        let calls = self.calls_at(i);
         Some(view_of(&entry, calls))
     }
 }

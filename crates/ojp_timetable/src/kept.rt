@@ -1,5 +1,6 @@
-//! What is kept of a stop and of a journey beside its name.
+//! What is kept of a stop, of a journey and of a call.
 
+use crate::calls::Call;
 use ojp_values::{Label, Name, StopRef};
 
 /// The change time of a stop in seconds, and its name.
@@ -16,6 +17,21 @@ pub struct Head {
     pub line: Label,
     pub service: usize,
     pub first_call: usize,
+}
+
+/// A call with the number of its stop among the places.
+#[derive(Clone, Copy, Debug)]
+pub struct FoundCall {
+    pub call: Call,
+    pub place: usize,
+}
+
+/// A call as it is kept: the number of its stop among the places, its arrival and its departure.
+#[derive(Clone, Copy, Debug)]
+pub struct KeptCall {
+    pub place: usize,
+    pub arrives: Option<u32>,
+    pub departs: Option<u32>,
 }
 
 /// A journey: its label, its line, the number of its service, and how many calls it has.

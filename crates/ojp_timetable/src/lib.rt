@@ -2,25 +2,26 @@
 #![tactic(auto)]
 
 pub mod above;
-mod calls;
+pub mod calls;
 mod checks;
 pub mod draft;
 mod fields;
-mod kept;
+pub mod kept;
 pub mod laws;
-mod lines;
+pub mod lines;
 mod point_lists;
 mod read_words;
 pub mod reading;
 mod reason_words;
-mod refusals;
+pub mod refusals;
 mod rides;
 mod said;
-mod table;
+pub mod stops;
+pub mod table;
 pub mod words;
 
 pub use calls::Call;
 pub use kept::{JourneyView, PlaceView};
 pub use lines::TableReason;
-pub use refusals::{LineRefused, TableRefused};
+pub use refusals::TableRefused;
 pub use table::Timetable;

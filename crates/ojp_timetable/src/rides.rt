@@ -3,6 +3,7 @@
 ghost use Rattle.std.specs.Prelude.{ℕ, ◌≡◌, ◌≢◌, ◌+◌, ◌<◌, ◌≤◌, length, Some, slice_get, MatchBool, MatchOption, IsTrue, ◌↔◌};
 ghost use Rattle.ojp_timetable.specs.Runs.{IsLeg, IsOffset, IsWell, RunsOn};
 ghost use Rattle.ojp_timetable.specs.Tables.{name_of};
+ghost use Rattle.ojp_timetable.specs.Views.{calls_at};
 ghost use Rattle.ojp_timetable.specs.Legal.{AlightsBehind, Alights, AreOffsets, Begins, Boards, BoardsNowhere, Ends, GoesOnBy, HasChanged, IsFirstBoard};
 
 use crate::calls::Call;
@@ -52,12 +53,14 @@ fn alights(table: &Timetable, leg: &Leg, call: &Call) -> bool
 }
 
 // The first call where the leg boards.
-fn first_board(table: &Timetable, leg: &Leg, calls: &[Call]) -> Option<usize>
-    requires { AreOffsets calls.now }
-    ensures { MatchOption result (BoardsNowhere table.now leg.now calls.now) (IsFirstBoard table.now leg.now calls.now) }
+fn first_board(table: &Timetable, leg: &Leg, number: usize, calls: usize) -> Option<usize>
+    requires range { AreOffsets (calls_at table.now.journeys number) }
+    requires all { calls ≡ length (calls_at table.now.journeys number) }
+    ensures { MatchOption result (BoardsNowhere table.now leg.now (calls_at table.now.journeys number)) (IsFirstBoard table.now leg.now (calls_at table.now.journeys number)) }
 {
-    'calls: for i in 0..calls.len() {
-        if boards(table, leg, &calls[i]) {
+    'calls: for i in 0..calls {
+        let call = table.call(number, i);
+        if boards(table, leg, &call) {
             return Some(i);
         }
     }
@@ -65,13 +68,15 @@ fn first_board(table: &Timetable, leg: &Leg, calls: &[Call]) -> Option<usize>
 }
 
 // Whether the leg alights at a call behind the one of that number.
-fn alights_behind(table: &Timetable, leg: &Leg, calls: &[Call], from: usize) -> bool
-    requires range { AreOffsets calls.now }
-    requires from { from < length calls.now }
-    ensures { MatchBool result (AlightsBehind table.now leg.now calls.now from) (AlightsBehind table.now leg.now calls.now from → ⊥) }
+fn alights_behind(table: &Timetable, leg: &Leg, number: usize, calls: usize, from: usize) -> bool
+    requires range { AreOffsets (calls_at table.now.journeys number) }
+    requires all { calls ≡ length (calls_at table.now.journeys number) }
+    requires from { from < calls }
+    ensures { MatchBool result (AlightsBehind table.now leg.now (calls_at table.now.journeys number) from) (AlightsBehind table.now leg.now (calls_at table.now.journeys number) from → ⊥) }
 {
-    'calls: for i in from + 1..calls.len() {
-        if alights(table, leg, &calls[i]) {
+    'calls: for i in from + 1..calls {
+        let call = table.call(number, i);
+        if alights(table, leg, &call) {
             return true;
         }
     }
@@ -126,10 +131,9 @@ fn is_ride(table: &Timetable, leg: &Leg) -> bool
     if !has_name(table, &leg.alight, &leg.alight_name) {
         return false;
     }
-    let calls = table.calls(number);
-    match first_board(table, leg, calls) {
+    match first_board(table, leg, number, journey.calls) {
         None => false,
-        Some(from) => alights_behind(table, leg, calls, from),
+        Some(from) => alights_behind(table, leg, number, journey.calls, from),
     }
 }
 

@@ -48,7 +48,7 @@ impl Timetable {
         ensures text { IfOk result (IsText bytes.now) }
         ensures refused { IfErr result (IsRefusal bytes.now) }
     {
-        let mut above = Above::new(alloc);
+        let mut above = Above::with_room(alloc, bytes.len())?;
         read_lines(alloc, bytes, &mut above)?;
         let draft = above.into_draft();
         let Ok(noons) = Noons::new(alloc, draft.zone()) else {
@@ -217,18 +217,14 @@ impl Timetable {
         self.draft.journey_number(&id)
     }
 
-    /// The calls of the journey of that number, and none where there is no such journey.
-    pub fn calls(&self, i: usize) -> &[Call]
-        ensures { result.now ≡ calls_at self.now.journeys i }
-    {
-        self.draft.calls_at(i)
-    }
-
     /// The call at that place of the journey of that number, both counted from 0.
     pub fn call(&self, i: usize, position: usize) -> Call
         requires { position < length (calls_at self.now.journeys i) }
         ensures { slice_get (calls_at self.now.journeys i) position ≡ Some result }
     {
-        self.draft.calls_at(i)[position]
+        match self.draft.call_at(i, position) {
+            Some(call) => call,
+            None => unreachable!(),
+        }
     }
 }

@@ -1,20 +1,16 @@
-use Rattle.std.proofs.Common.{◌≡◌, ◌≤◌, ◌+◌, Some, List, Vec, Global, length, arith, refl, sym, ap, subst, slice_get}
-use Rattle.std.proofs.lemmas.Option.{slice_get_read}
+use Rattle.std.proofs.Common.{◌≡◌, ◌≤◌, ◌+◌, Some, Vec, Global, length, arith, sym, subst, slice_get}
 use Rattle.ojp_values.specs.declared.trips.Event.{Event}
-use Rattle.ojp_timetable.specs.declared.calls.Call.{Call}
 use Rattle.ojp_timetable.specs.Views.{calls_at}
 use Rattle.ojp_stop_events.specs.Found.{AreFirst}
-use Rattle.ojp_stop_events.proofs.EventFacts.{call_here, called, elsewhere, no_more_calls, to_next_call}
+use Rattle.ojp_stop_events.proofs.EventFacts.{call_here, called, calls_told, elsewhere, no_more_calls, to_next_call}
 use Rattle.ojp_stop_events.proofs.answers.add_journey.Goals as goal
 use Rattle.ojp_stop_events.proofs.answers.add_journey.Goals.{then-is_at_stop+in_ok-add_call, else-is_at_stop}
 
+pub call-call-requires : goal.call-call-requires
+call-call-requires c = omega (arith, c.calls-test.true, calls_told c.args.table.now.journeys c.args.journey c.journey.result c.journey.ensures)
+
 pub add_call-requires-clause-call : goal.add_call-requires-clause-call
-add_call-requires-clause-call c =
-    let calls = c.calls-calls.ensures in
-    let call = c.index-calls-position.result in
-    called c.args.table.now c.args.journey c.calls.position call c.requires.within
-    (subst (λ (cs : List Call). slice_get cs c.calls.position ≡ Some call) calls
-    (slice_get_read c.calls-calls.result.now (length c.calls-calls.result.now) c.calls.position call refl c.calls-test.true c.index-calls-position.is))
+add_call-requires-clause-call c = called c.args.table.now c.args.journey c.calls.position c.call-call.result c.requires.within c.call-call.ensures
 
 pub calls-preserved : goal.calls-preserved
 calls-preserved c =
@@ -23,10 +19,8 @@ calls-preserved c =
     let j = c.args.journey in
     let p = c.calls.position in
     let rest : Vec Event Global → Type 0 = λ first. AreFirst table ask j (p + 1) 0 first.items in
-    let call = c.index-calls-position.result in
-    let here : slice_get (calls_at table.journeys j) p ≡ Some call =
-    subst (λ (cs : List Call). slice_get cs p ≡ Some call) c.calls-calls.ensures
-    (slice_get_read c.calls-calls.result.now (length c.calls-calls.result.now) p call refl c.calls-test.true c.index-calls-position.is) in
+    let call = c.call-call.result in
+    let here : slice_get (calls_at table.journeys j) p ≡ Some call = c.call-call.ensures in
     elim c.if-is_at_stop.branch [
       | then-is_at_stop+in_ok-add_call w ↦ subst rest (sym w.first-is) w.in_ok-add_call.ensures
       | else-is_at_stop w ↦
@@ -38,5 +32,6 @@ calls-preserved c =
 
 pub returns : goal.returns
 returns c =
-    let all : length (calls_at c.args.table.now.journeys c.args.journey) ≤ c.calls.position = omega (arith, ap length c.calls-calls.ensures) in
+    let told = calls_told c.args.table.now.journeys c.args.journey c.journey.result c.journey.ensures in
+    let all : length (calls_at c.args.table.now.journeys c.args.journey) ≤ c.calls.position = omega (arith, told, c.calls-test.false) in
     no_more_calls c.args.table.now c.args.ask.now c.args.journey c.calls.position c.calls.first.items c.requires.within all c.calls.invariant

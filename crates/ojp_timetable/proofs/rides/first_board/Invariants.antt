@@ -1,7 +1,8 @@
 use Rattle.std.proofs.Common.{◌≡◌, ◌<◌, ℕ, Some, slice_get}
 use Rattle.ojp_timetable.specs.declared.calls.Call.{Call}
 use Rattle.ojp_timetable.specs.Legal.{Boards}
+use Rattle.ojp_timetable.specs.Views.{calls_at}
 use Rattle.ojp_timetable.proofs.rides.first_board.Given as goal
 
 abbrev pub invariant-calls : goal.invariant-calls
-invariant-calls l = (k : ℕ) (other : Call) → slice_get l.calls k ≡ Some other → k < l.i → Boards l.table l.leg other → ⊥
+invariant-calls l = (k : ℕ) (other : Call) → slice_get (calls_at l.table.journeys l.number) k ≡ Some other → k < l.i → Boards l.table l.leg other → ⊥

@@ -4,6 +4,7 @@ use Rattle.std.proofs.lemmas.Option.{slice_get_within}
 use Rattle.ojp_timetable.specs.declared.calls.Call.{Call}
 use Rattle.ojp_timetable.specs.declared.kept.JourneyView.{JourneyView}
 use Rattle.ojp_timetable.specs.Tables.{Journey}
+use Rattle.ojp_timetable.specs.Views.{calls_at}
 use Rattle.ojp_timetable.specs.Runs.{IsLeg, RunsOn}
 use Rattle.ojp_values.specs.declared.trips.Leg.{Leg}
 use Rattle.ojp_timetable.specs.Legal.{AlightsBehind, AreOffsets, BoardsNowhere, IsFirstBoard}
@@ -61,8 +62,8 @@ returns-then-not-has_name c is = c.if-not-has_name.ensures (has_names c.args.tab
 pub returns-then-not-has_name-2 : goal.returns-then-not-has_name-2
 returns-then-not-has_name-2 c is = c.if-not-has_name-2.ensures (has_names c.args.table.now c.args.leg.now c.requires is).1
 
-pub first_board-requires : goal.first_board-requires
-first_board-requires c =
+pub first_board-requires-clause-range : goal.first_board-requires-clause-range
+first_board-requires-clause-range c =
     let table = c.args.table.now in
     let leg = c.args.leg.now in
     let n = c.in-Some.number in
@@ -71,7 +72,7 @@ first_board-requires c =
     let of = found.0 in
     let at = found.1 in
     let view = view_is table.journeys n of c.journey-journey.result at c.journey-journey.ensures in
-    let calls : c.calls-calls.result.now ≡ of.calls = c.calls-calls.ensures ∙ calls_are table.journeys n of at in
+    let calls : calls_at table.journeys n ≡ of.calls = calls_are table.journeys n of at in
     subst AreOffsets (sym calls) (offsets table of c.requires (among_at table.journeys n of at))
 
 pub alights_behind-requires-clause-range : goal.alights_behind-requires-clause-range
@@ -84,13 +85,35 @@ alights_behind-requires-clause-range c =
     let of = found.0 in
     let at = found.1 in
     let view = view_is table.journeys n of c.journey-journey.result at c.journey-journey.ensures in
-    let calls : c.calls-calls.result.now ≡ of.calls = c.calls-calls.ensures ∙ calls_are table.journeys n of at in
+    let calls : calls_at table.journeys n ≡ of.calls = calls_are table.journeys n of at in
     subst AreOffsets (sym calls) (offsets table of c.requires (among_at table.journeys n of at))
+
+pub first_board-requires-clause-all : goal.first_board-requires-clause-all
+first_board-requires-clause-all c =
+    let table = c.args.table.now in
+    let n = c.in-Some.number in
+    let found = found_at table.journeys c.args.leg.now.journey n (sym c.journey_of.ensures ∙ c.in-Some.is) in
+    let view = view_is table.journeys n found.0 c.journey-journey.result found.1 c.journey-journey.ensures in
+    ap (λ (v : JourneyView). v.calls) view ∙ sym (ap (λ (cs : List Call). length cs) (calls_are table.journeys n found.0 found.1))
+
+pub alights_behind-requires-clause-all : goal.alights_behind-requires-clause-all
+alights_behind-requires-clause-all c =
+    let table = c.args.table.now in
+    let n = c.in-Some.number in
+    let found = found_at table.journeys c.args.leg.now.journey n (sym c.journey_of.ensures ∙ c.in-Some.is) in
+    let view = view_is table.journeys n found.0 c.journey-journey.result found.1 c.journey-journey.ensures in
+    ap (λ (v : JourneyView). v.calls) view ∙ sym (ap (λ (cs : List Call). length cs) (calls_are table.journeys n found.0 found.1))
 
 pub alights_behind-requires-clause-from : goal.alights_behind-requires-clause-from
 alights_behind-requires-clause-from c =
+    let table = c.args.table.now in
+    let n = c.in-Some.number in
+    let found = found_at table.journeys c.args.leg.now.journey n (sym c.journey_of.ensures ∙ c.in-Some.is) in
+    let view = view_is table.journeys n found.0 c.journey-journey.result found.1 c.journey-journey.ensures in
+    let all = ap (λ (v : JourneyView). v.calls) view ∙ sym (ap (λ (cs : List Call). length cs) (calls_are table.journeys n found.0 found.1)) in
     let first = c.in-Some-first_board.ensures in
-    slice_get_within c.calls-calls.result.now c.in-Some-first_board.from first.call first.at
+    let within = slice_get_within (calls_at table.journeys n) c.in-Some-first_board.from first.call first.at in
+    omega (arith, within, all)
 
 pub returns-in-None : goal.returns-in-None
 returns-in-None c is =
@@ -102,7 +125,7 @@ returns-in-None c is =
     let of = found.0 in
     let at = found.1 in
     let view = view_is table.journeys n of c.journey-journey.result at c.journey-journey.ensures in
-    let calls : c.calls-calls.result.now ≡ of.calls = c.calls-calls.ensures ∙ calls_are table.journeys n of at in
+    let calls : calls_at table.journeys n ≡ of.calls = calls_are table.journeys n of at in
     let journey = its_journey table leg n of c.requires e at is in
     let there = boards_there table leg of is journey in
     let none = subst (λ (cs : List Call). BoardsNowhere table leg cs) calls c.in-None.ensures in
@@ -118,7 +141,7 @@ returns-in-Some-first_board c =
     let of = found.0 in
     let at = found.1 in
     let view = view_is table.journeys n of c.journey-journey.result at c.journey-journey.ensures in
-    let calls : c.calls-calls.result.now ≡ of.calls = c.calls-calls.ensures ∙ calls_are table.journeys n of at in
+    let calls : calls_at table.journeys n ≡ of.calls = calls_are table.journeys n of at in
     let from = c.in-Some-first_board.from in
     let first = subst (λ (cs : List Call). IsFirstBoard table leg cs from) calls c.in-Some-first_board.ensures in
     let behind = subst (λ (cs : List Call). MatchBool c.alights_behind.result (AlightsBehind table leg cs from) (AlightsBehind table leg cs from → ⊥)) calls c.alights_behind.ensures in

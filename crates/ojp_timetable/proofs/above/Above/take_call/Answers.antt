@@ -11,7 +11,7 @@ use Rattle.ojp_timetable.proofs.above.Above.take_call.Goals as goal
 pub invariant_of-self-2 : goal.invariant_of-self-2
 invariant_of-self-2 c =
     let s = c.self.inside in
-    let call = c.in-Ok.call in
+    let call = c.in-Ok.found.call in
     let text = c.args.text.now in
     let v = sym c.self.view_is in
     let above : Above = record { lines = s.lines; bytes = s.bytes; left = s.left; contents = s.draft } in

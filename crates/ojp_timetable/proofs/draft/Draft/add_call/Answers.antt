@@ -6,20 +6,23 @@ use Rattle.ojp_timetable.proofs.draft.Draft.add_call.Goals as goal
 
 pub invariant_of-self-2 : goal.invariant_of-self-2
 invariant_of-self-2 c =
-    let size : length c.self.inside.calls.items + 1 ≡ length c.push.new.self.items = sym (ap length c.in-Ok.ensures.items ∙ length-append c.self.inside.calls.items (c.args.call.now ∷ [])) in
-    subst (λ (n : ℕ). AreInRow c.self.inside.journeys.entries n) size (in_row-push c.self.inside.journeys.entries (length c.self.inside.calls.items) (λ e. true≢false (sym (c.is_empty.ensures.1 (ap length e)) ∙ c.if-is_empty.false)) c.self.invariant)
+    let calls = c.self.inside.stops.calls in
+    let size : length calls + 1 ≡ length c.push_call.new.self.calls = sym (ap length c.in-Ok.ensures.added ∙ length-append calls (c.args.found.now.call ∷ [])) in
+    subst (λ (n : ℕ). AreInRow c.self.inside.journeys.entries n) size (in_row-push c.self.inside.journeys.entries (length calls) (λ e. true≢false (sym (c.is_empty.ensures.1 (ap length e)) ∙ c.if-is_empty.false)) c.self.invariant)
 
 pub returns-clause-value : goal.returns-clause-value
 returns-clause-value c =
     let v = c.self.view_is in
     let entries = c.self.inside.journeys.entries in
-    let journeys : journeys_of entries c.push.new.self.items ≡ with_call c.args.self.now.journeys c.args.call.now =
-    ap (journeys_of entries) c.in-Ok.ensures.items
-    ∙ (sym (with_call-row entries c.self.inside.calls.items c.args.call.now c.self.invariant) ∙ ap (λ (contents : Contents). with_call contents.journeys c.args.call.now) v) in
+    let call = c.args.found.now.call in
+    let places : c.push_call.new.self.places ≡ c.args.self.now.places = c.push_call.ensures.places ∙ ap (λ (contents : Contents). contents.places) v in
+    let journeys : journeys_of entries c.push_call.new.self.calls ≡ with_call c.args.self.now.journeys call =
+    ap (journeys_of entries) c.in-Ok.ensures.added
+    ∙ (sym (with_call-row entries c.self.inside.stops.calls call c.self.invariant) ∙ ap (λ (contents : Contents). with_call contents.journeys call) v) in
     λ i. record {
       region = (v i).region;
       zone = (v i).zone;
-      places = (v i).places;
+      places = places i;
       points = (v i).points;
       services = (v i).services;
       journeys = journeys i;

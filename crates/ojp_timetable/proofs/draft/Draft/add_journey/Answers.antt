@@ -13,16 +13,16 @@ pub invariant_of-self-2 : goal.invariant_of-self-2
 unfolding has_journey same
 invariant_of-self-2 c =
     let m = c.self.inside.journeys in
-    let none = absent_journey _ c.args.id.now (λ _. refl) m.entries c.self.inside.calls.items (ap (λ (contents : Contents). has_journey contents c.args.id.now) c.self.view_is ∙ c.requires) in
+    let none = absent_journey _ c.args.id.now (λ _. refl) m.entries c.self.inside.stops.calls (ap (λ (contents : Contents). has_journey contents c.args.id.now) c.self.view_is ∙ c.requires) in
     let entries = c.in-Ok.ensures.entries ∙ insert_entry-new _ m c.args.id.now _ none in
-    subst (λ (es : List (Text × Head)). AreInRow es (length c.self.inside.calls.items)) (sym entries) (in_row-head m.entries (length c.self.inside.calls.items) _ (ap length c.as_slice.ensures.value) c.self.invariant)
+    subst (λ (es : List (Text × Head)). AreInRow es (length c.self.inside.stops.calls)) (sym entries) (in_row-head m.entries (length c.self.inside.stops.calls) _ c.calls.ensures c.self.invariant)
 
 pub returns-clause-value : goal.returns-clause-value
 unfolding has_journey same
 returns-clause-value c =
     let v = c.self.view_is in
     let m = c.self.inside.journeys in
-    let calls = c.self.inside.calls.items in
+    let calls = c.self.inside.stops.calls in
     let none = absent_journey _ c.args.id.now (λ _. refl) m.entries calls (ap (λ (contents : Contents). has_journey contents c.args.id.now) v ∙ c.requires) in
     let entries = c.in-Ok.ensures.entries ∙ insert_entry-new _ m c.args.id.now _ none in
     let service : c.unwrap_or.result ≡ unwrap_or (service_number c.args.self.now c.args.service.now) 0 =
@@ -30,7 +30,7 @@ returns-clause-value c =
     let journey : ℕ → Journey = λ n. record { id = c.args.id.now; line = c.args.line.now; service = n; calls = [] } in
     let journeys : journeys_of c.insert.new.self.entries calls ≡ c.args.self.now.journeys ++ journey (unwrap_or (service_number c.args.self.now c.args.service.now) 0) ∷ [] =
     ap (λ (es : List (Text × Head)). journeys_of es calls) entries
-    ∙ (head-row m.entries calls _ (ap length c.as_slice.ensures.value) c.self.invariant
+    ∙ (head-row m.entries calls _ c.calls.ensures c.self.invariant
     ∙ (ap (λ (n : ℕ). journeys_of m.entries calls ++ journey n ∷ []) service
     ∙ ap (λ (contents : Contents). contents.journeys ++ journey (unwrap_or (service_number c.args.self.now c.args.service.now) 0) ∷ []) v)) in
     λ i. record {

@@ -9,5 +9,5 @@ use Rattle.ojp_timetable.proofs.draft.Draft.journey_number.Goals as goal
 pub returns : goal.returns
 unfolding same
 returns c =
-    c.get_index_of.ensures.index ∙ (position_row _ c.args.id.now (λ _. refl) c.self.inside.journeys.entries c.self.inside.calls.items
+    c.get_index_of.ensures.index ∙ (position_row _ c.args.id.now (λ _. refl) c.self.inside.journeys.entries c.self.inside.stops.calls
     ∙ ap (λ (contents : Contents). position (λ (journey : Journey). same c.args.id.now journey.id) contents.journeys) c.self.view_is)

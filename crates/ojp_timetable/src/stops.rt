@@ -1,0 +1,167 @@
+//! The stops of a timetable and the calls at them.
+ghost use Rattle.std.specs.Prelude.{◌≡◌, ◌<◌, false, is_some, IfOk, OnOk, OnErr, length, option_map, find, bytes_eq, position, slice_get, [], ◌∷◌, ◌++◌};
+ghost use Rattle.std.specs.List.{list_any};
+
+use crate::calls::Call;
+use crate::kept::{FoundCall, KeptCall, PlaceFacts, PlaceView};
+use indexmap::IndexMap;
+use ojp_values::{Name, NoMemory, StopRef};
+use std::alloc::Global;
+use std::marker::Model;
+
+/// The stops with the exchange points, in the order of the file, and the calls at them in one row,
+/// each of which is kept by the number of its stop.
+#[derive(Drop)]
+pub struct Stops {
+    facts: IndexMap<StopRef, PlaceFacts>,
+    kept: Vec<KeptCall>,
+}
+
+impl Model for Stops {
+    ghost use Rattle.std.specs.Prelude.{map, length};
+    ghost use Rattle.ojp_timetable.specs.Kept.{AreAtPlaces, StopsAndCalls, call_kept, place_kept};
+
+    ghost Value = { StopsAndCalls };
+
+    ghost view = { λ s. record { places = map place_kept s.facts.entries; calls = map (call_kept (map place_kept s.facts.entries)) s.kept.items } };
+
+    ghost invariant = { λ s. AreAtPlaces (length s.facts.entries) s.kept.items };
+}
+
+impl Stops {
+    ghost use Rattle.ojp_timetable.specs.Kept.{IsAtPlace, facts_of, no_stops, stop_of};
+    ghost use Rattle.ojp_timetable.specs.Tables.{Place as PlaceValue};
+    ghost use Rattle.ojp_timetable.specs.Views.{place_view};
+
+    /// Neither stops nor calls; takes no memory.
+    pub fn new(alloc: Global) -> Stops
+        ensures { result ≡ no_stops }
+    {
+        Stops {
+            facts: IndexMap::new(alloc),
+            kept: Vec::new(alloc),
+        }
+    }
+
+    /// Neither stops nor calls, with room for so many.
+    pub fn with_room(alloc: Global, places: usize, calls: usize) -> Result<Stops, NoMemory>
+        ensures { IfOk result (λ stops. stops ≡ no_stops) }
+    {
+        let Ok(facts) = IndexMap::with_capacity(alloc, places) else {
+            return Err(NoMemory);
+        };
+        let Ok(kept) = Vec::with_capacity(alloc, calls) else {
+            return Err(NoMemory);
+        };
+        Ok(Stops { facts, kept })
+    }
+
+    /// Whether the stop is one of them.
+    pub fn has(&self, stop: &StopRef) -> bool
+        ensures { result ≡ list_any (λ (place : PlaceValue). bytes_eq stop.now place.stop) self.now.places }
+    {
+        self.facts.contains_key(stop)
+    }
+
+    /// The number of the stop, in the order of the file.
+    pub fn number(&self, stop: &StopRef) -> Option<usize>
+        ensures first { result ≡ position (λ (place : PlaceValue). bytes_eq stop.now place.stop) self.now.places }
+        ensures known { is_some result ≡ list_any (λ (place : PlaceValue). bytes_eq stop.now place.stop) self.now.places }
+    {
+        self.facts.get_index_of(stop)
+    }
+
+    /// The change time and the name of the stop.
+    pub fn facts(&self, stop: &StopRef) -> Option<PlaceFacts>
+        ensures { result ≡ option_map facts_of (find (λ (place : PlaceValue). bytes_eq stop.now place.stop) self.now.places) }
+    {
+        self.facts.get(stop).copied()
+    }
+
+    /// How many stops there are.
+    pub fn places(&self) -> usize
+        ensures { result ≡ length self.now.places }
+    {
+        self.facts.len()
+    }
+
+    /// How many calls there are.
+    pub fn calls(&self) -> usize
+        ensures { result ≡ length self.now.calls }
+    {
+        self.kept.as_slice().len()
+    }
+
+    /// The stop of that number.
+    pub fn place_at(&self, i: usize) -> Option<PlaceView>
+        ensures { result ≡ option_map place_view (slice_get self.now.places i) }
+    {
+        match self.facts.get_index(i) {
+            None => None,
+            Some((stop, facts)) => Some(PlaceView {
+                stop: *stop,
+                change: facts.change,
+                name: facts.name,
+            }),
+        }
+    }
+
+    // The reference of the stop of that number.
+    fn stop_at(&self, i: usize) -> StopRef
+        requires { i < length self.now.places }
+        ensures { result ≡ stop_of self.now.places i }
+    {
+        match self.facts.get_index(i) {
+            None => unreachable!(),
+            Some((stop, _)) => *stop,
+        }
+    }
+
+    /// The call of that number in the row.
+    pub fn call_at(&self, i: usize) -> Option<Call>
+        ensures { result ≡ slice_get self.now.calls i }
+    {
+        match self.kept.get(i) {
+            None => None,
+            Some(kept) => Some(Call {
+                stop: self.stop_at(kept.place),
+                arrives: kept.arrives,
+                departs: kept.departs,
+            }),
+        }
+    }
+
+    /// Adds a stop.
+    pub fn push(&mut self, stop: &StopRef, change: u32, name: &Name) -> Result<(), NoMemory>
+        requires { list_any (λ (place : PlaceValue). bytes_eq stop.now place.stop) self.old.places ≡ false }
+        ensures added { OnOk result (self.new.places ≡ self.old.places ++ record { stop = stop.now; change = change; name = name.now } ∷ []) }
+        ensures calls { self.new.calls ≡ self.old.calls }
+    {
+        let facts = PlaceFacts {
+            change,
+            name: *name,
+        };
+        let Ok(_) = self.facts.insert(*stop, facts) else {
+            return Err(NoMemory);
+        };
+        Ok(())
+    }
+
+    /// Adds a call.
+    pub fn push_call(&mut self, found: &FoundCall) -> Result<(), NoMemory>
+        requires { IsAtPlace self.old.places found.now }
+        ensures places { self.new.places ≡ self.old.places }
+        ensures added { OnOk result (self.new.calls ≡ self.old.calls ++ found.now.call ∷ []) }
+        ensures calls { OnErr result (self.new.calls ≡ self.old.calls) }
+    {
+        let kept = KeptCall {
+            place: found.place,
+            arrives: found.call.arrives,
+            departs: found.call.departs,
+        };
+        let Ok(()) = self.kept.push(kept) else {
+            return Err(NoMemory);
+        };
+        Ok(())
+    }
+}
