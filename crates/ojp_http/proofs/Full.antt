@@ -1,5 +1,5 @@
 -- Bytes that are full, by the count of their lines.
-use Rattle.std.proofs.Common.{◌≡◌, ℕ, ◌+◌, ◌≤◌, Bool, true, false, not, ◌&&◌, ◌||◌, List, [], ◌∷◌, length, refl, sym, ap, ◌∙◌, arith, inl, inr, subst, nat_le, if◌then◌else◌}
+use Rattle.std.proofs.Common.{◌≡◌, ℕ, ◌+◌, ◌≤◌, Bool, true, false, not, ◌&&◌, List, [], ◌∷◌, length, refl, sym, ap, ◌∙◌, arith, inl, inr, subst, nat_le, if◌then◌else◌}
 use Rattle.std.specs.Prelude.{◌==◌}
 use Rattle.ojp_http.specs.declared.count.Begun.TheVariants.{Nothing, Return, Other}
 use Rattle.ojp_http.specs.declared.count.Begun.{Begun}

@@ -1,5 +1,5 @@
 -- How the machine moves from phase to phase.
-use Rattle.std.proofs.Common.{◌≡◌, ℕ, ◌+◌, ◌-◌, ◌*◌, ◌≤◌, ◌<◌, Bool, true, false, List, [], ◌∷◌, ◌++◌, length, refl, sym, ap, ◌∙◌, arith, subst, inl, inr, suc, zero, Option, Some, None, if◌then◌else◌, nat_le, nat_lt, ◌&&◌, not, map}
+use Rattle.std.proofs.Common.{◌≡◌, ℕ, ◌+◌, ◌-◌, ◌*◌, ◌≤◌, ◌<◌, Bool, true, false, List, [], ◌++◌, length, refl, sym, ap, ◌∙◌, arith, subst, inl, inr, suc, zero, Option, Some, None, if◌then◌else◌, nat_le, nat_lt, ◌&&◌, not, map}
 use Rattle.std.specs.Prelude.{◌==◌, ◌≢◌}
 use Rattle.std.specs.Str.Parse.{digits_value}
 use lib.Dec.{eqb-suc-zero}

@@ -1,5 +1,5 @@
 -- A reply in pieces.
-use Rattle.std.proofs.Common.{◌≡◌, ℕ, true, false, List, [], ◌∷◌, ◌++◌, length, take, refl, sym, ap, ◌∙◌, append_assoc, append-nil, subst, Result, Ok, Err, ◌≤◌}
+use Rattle.std.proofs.Common.{◌≡◌, ℕ, true, false, List, [], ◌++◌, length, take, refl, sym, ap, ◌∙◌, append_assoc, append-nil, subst, Result, Ok, Err, ◌≤◌}
 use Rattle.std.specs.Prelude.{◌≢◌, ◌==◌}
 use Rattle.ojp_http.specs.declared.fed.ReplyFed.{ReplyFed}
 use Rattle.ojp_http.specs.declared.fed.ReplyFed.TheVariants as fed

@@ -1,9 +1,9 @@
 -- Runs of bytes without a line feed, kept at once.
-use Rattle.std.proofs.Common.{◌≡◌, ℕ, ◌+◌, ◌≤◌, ◌<◌, Bool, true, false, not, ◌&&◌, ◌||◌, List, [], ◌∷◌, ◌++◌, Option, Some, None, Result, Ok, length, take, get_or, refl, sym, ap, ◌∙◌, arith, append_assoc, append-nil, subst, suc, zero, inl, inr, nat_le, if◌then◌else◌, length-append}
+use Rattle.std.proofs.Common.{◌≡◌, ℕ, ◌+◌, ◌≤◌, ◌<◌, Bool, true, false, not, ◌&&◌, ◌||◌, List, [], ◌∷◌, ◌++◌, Some, None, Ok, length, take, get_or, refl, sym, ap, ◌∙◌, arith, append_assoc, append-nil, subst, suc, inl, inr, nat_le, if◌then◌else◌, length-append}
 use Rattle.std.specs.Prelude.{◌==◌}
-use Rattle.std.proofs.lemmas.Bool.{and_parts, cases_Bool, false_from_ne_true, leb-true, not-true, or_cases, or_right}
+use Rattle.std.proofs.lemmas.Bool.{and_parts, cases_Bool, eqb-true, false_from_ne_true, leb-true, not-true, or_cases, or_right}
 use Rattle.std.proofs.lemmas.Bool.Decides.{nat_tests}
-use Rattle.std.proofs.lemmas.List.{length-take-le, get_or-take}
+use Rattle.std.proofs.lemmas.List.{length-take-le, get_or-take, take_more}
 use Rattle.memchr.specs.Find.{IsFirstByte, is_byte}
 use Rattle.httparse.specs.Grammar.{Field, RequestHead, ReadsRequest, ResponseHead, ReadsResponse}
 use Rattle.ojp_http.specs.declared.refusal.Refusal.TheVariants as refusals
@@ -14,13 +14,14 @@ use Rattle.ojp_http.specs.declared.count.Begun.{Begun}
 use Rattle.ojp_http.specs.declared.count.Begun.TheVariants.{Nothing, Return as Returned, Other}
 use Rattle.ojp_http.specs.declared.count.LineCount.{LineCount}
 use Rattle.ojp_http.specs.Bodies.{ReadsTrailer, has_no_feed}
+use Rattle.ojp_http.specs.ChunkLines.{EndsLine}
 use Rattle.ojp_http.specs.Heads.{HasNoHead}
 use Rattle.ojp_http.specs.Machine.{IsCounted, IsOpen, IsOpenAt, IsRun, Moves, Steps, most_kept_at}
-use Rattle.ojp_http.specs.LineCounts.{no_lines, begun_step, begun_run, count_end, count_step, count_from, is_full_by}
+use Rattle.ojp_http.specs.LineCounts.{begun_step, begun_run, count_end, count_step, count_from, is_full_by}
 use Rattle.ojp_http.proofs.Full.{full_by}
 use Rattle.ojp_http.proofs.Grammars.{no_feed_append, requests, responses, trailers}
 use Rattle.ojp_http.proofs.Headed.{Grammar, unended}
-use Rattle.ojp_http.proofs.Stepping.{counted_more, grown, head_more, line_more, reply_more, recounted, trailer_more}
+use Rattle.ojp_http.proofs.Stepping.{counted_more, grown, head_more, reply_more, recounted, trailer_more}
 
 -- ---- the first line feed
 
@@ -57,6 +58,25 @@ run_none most kept m n piece le lt is first =
       plain = subst (λ (l : ℕ). has_no_feed (take l piece) ≡ true) (sym same) plain;
       unfull = λ some. omega (arith, same, lt);
     }
+
+-- the bytes up to the first line feed end a line
+pub line_found : (kept piece : List ℕ) (m at : ℕ) → has_no_feed kept ≡ true → m ≤ length piece → IsFirstByte (is_byte 10) (take m piece) (Some at) → EndsLine (kept ++ take (at + 1) piece)
+line_found kept piece m at plain le first =
+    let size : length (take m piece) ≡ m = length-take-le m piece le in
+    let low : at < m = omega (arith, size, first.0.high) in
+    let run = run_found (m + 1) 0 m at piece le (omega arith) first in
+    let feed : get_or piece at 0 ≡ 10 = sym (get_or-take m piece at 0 low) ∙ eqb-true (get_or (take m piece) at 0) 10 first.1 in
+    record {
+      kept = kept ++ take at piece;
+      is = ap (λ (l : List ℕ). kept ++ l) (take_more piece at 0 (omega arith) ∙ ap (λ (n : ℕ). take at piece ++ n ∷ []) feed) ∙ sym (append_assoc kept (take at piece) (10 ∷ []));
+      plain = no_feed_append kept (take at piece) plain run.plain;
+    }
+
+-- or all of them are of a line that goes on
+pub line_front : (kept piece : List ℕ) (m : ℕ) → has_no_feed kept ≡ true → m ≤ length piece → IsFirstByte (is_byte 10) (take m piece) None → has_no_feed (kept ++ take m piece) ≡ true
+line_front kept piece m plain le first =
+    let run = run_none (m + 1) 0 m m piece le (omega arith) (sym (length-take-le m piece le)) first in
+    no_feed_append kept (take m piece) plain run.plain
 
 -- ---- the count of lines
 
@@ -158,8 +178,7 @@ moves_at Head old new run a c r k s h lt ready =
 moves_at ReplyHead old new run a c r k s h lt ready =
     reply_more old new run a c k (run_ready ReadsResponse (λ (h : ResponseHead). h.fields) 66 1 responses run old.kept.items new.kept.items old.count new.count k s h lt ready)
 moves_at (Content left) old new run a c r k s h lt ready = absurd (omega arith)
-moves_at Line old new run a c r k s h lt ready =
-    line_more old new run a c r k (omega (arith, ap length k, length-append old.kept.items run, lt), ap has_no_feed k ∙ no_feed_append old.kept.items run ready.1 h)
+moves_at Line old new run a c r k s h lt ready = absurd (omega arith)
 moves_at (Data left) old new run a c r k s h lt ready = absurd (omega arith)
 moves_at (Return has_return) old new run a c r k s h lt ready = absurd (omega arith)
 moves_at Trailing old new run a c r k s h lt ready =

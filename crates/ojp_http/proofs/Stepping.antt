@@ -1,6 +1,6 @@
 -- One byte more: what each outcome says of all the bytes.
-use Rattle.std.proofs.Common.{◌≡◌, ℕ, ◌+◌, ◌-◌, ◌^◌, ◌≤◌, ◌<◌, true, false, List, [], ◌∷◌, ◌++◌, length, take, drop, get_or, refl, sym, ap, ◌∙◌, arith, append_assoc, append-nil, subst, length-append, suc, Option, Some, None, Result, Ok, Err, not, ◌&&◌, inl, inr}
-use Rattle.std.specs.Prelude.{◌==◌, ◌≢◌}
+use Rattle.std.proofs.Common.{◌≡◌, ℕ, ◌+◌, ◌-◌, ◌^◌, ◌≤◌, ◌<◌, true, false, List, [], ◌∷◌, ◌++◌, length, take, drop, get_or, refl, sym, ap, ◌∙◌, arith, append_assoc, append-nil, subst, length-append, suc, Option, Some, None, Result, Ok, Err, inl, inr, take-append-drop}
+use Rattle.std.specs.Prelude.{◌≢◌}
 use Rattle.httparse.specs.Grammar.{Field, RequestHead, ReadsRequest, ResponseHead, ReadsResponse, LineEnd, ChunkLine, ReadsChunkLine, print_chunk_line, chunk_size}
 use Rattle.ojp_http.specs.declared.refusal.Refusal.{Refusal}
 use Rattle.ojp_http.specs.declared.refusal.Refusal.TheVariants as refusals
@@ -10,18 +10,17 @@ use Rattle.ojp_http.specs.declared.machine.Phase.TheVariants.{Head, ReplyHead, C
 use Rattle.ojp_http.specs.declared.machine.Framing.{Framing}
 use Rattle.ojp_http.specs.declared.machine.Stop.{Stop}
 use Rattle.ojp_http.specs.declared.machine.Stop.TheVariants.{Refused, NoMemory}
-use Rattle.std.proofs.lemmas.Bool.Decides.{nat_tests}
 use Rattle.ojp_http.specs.Verdicts.{Verdict, whole, refused, cut, after}
 use Rattle.ojp_http.specs.Heads.{HasHead, HasNoHead, IsFullAt, Begins, found, malformed, full}
 use Rattle.ojp_http.specs.Bodies.{EndsHere, Takes, taken as takes_all, short as takes_short, EndsChunk, ended as chunk_ended, begun as chunk_begun, other as chunk_other, Chunks, Trailer, ReadsTrailer, Sized, last as size_last, chunk as size_chunk, over as size_over, room_after, Frames, has_no_feed, Asks, Replies, ReadsLine, ReadsLines}
 use Rattle.ojp_http.specs.Fields.{ask_frame, reply_frame}
-use Rattle.ojp_http.specs.Machine.{ReadsAt, Reads, IsOpenAt, IsOpen, work_at, room_at, SpendsBy, Spends, limit_at, IsCounted, FrameSpends, SizedSpends, Follows, Enters, Moves, StepsBy, Steps, Advances, content_left, chunk_left, one_of}
+use Rattle.ojp_http.specs.Machine.{ReadsAt, Reads, IsOpenAt, IsOpen, work_at, room_at, SpendsBy, Spends, limit_at, IsCounted, FrameSpends, SizedSpends, Follows, Enters, Moves, StepsBy, Steps, Advances, content_left, chunk_left, taken_of}
+use Rattle.ojp_http.specs.ChunkLines.{EndsLine}
 use Rattle.ojp_http.specs.Outcomes.{HasGrown, Refuses}
 use Rattle.ojp_http.specs.LineCounts.{no_lines, count_from, count_step}
 use Rattle.ojp_http.specs.declared.count.LineCount.{LineCount}
 use Rattle.ojp_http.proofs.CountFacts.{count_from-append}
 use Rattle.ojp_http.proofs.Full.{counted_from}
-use Rattle.ojp_http.proofs.Grammars.{no_feed_append}
 use Rattle.ojp_http.proofs.Headed.{full_now}
 use Rattle.ojp_http.proofs.MachineFacts.{after-nil, content_reads, chunk_reads, content_open, chunk_open, content_work, chunk_work, not_content, not_chunk}
 
@@ -276,62 +275,54 @@ line_reads bytes rest l size room v x e le s =
           (subst (λ (n : ℕ). Sized (ReadsLines m.0) room n rest v) e m.1);
     }
 
-line_within : (kept : ℕ) → kept < 256 → (room : ℕ) (o : Option ℕ) (q : Phase) (k : ℕ) → SpendsBy (Some room) Line 255 o q k 1 0 → SpendsBy (Some room) Line kept o q k 1 0
-line_within kept lt room None q k s = s
-line_within kept lt room (Some left) q k s = (let h = s.0 in omega (arith, lt), s.1, s.2)
+line_within : (kept n : ℕ) → kept + n ≤ 256 → (room : ℕ) (o : Option ℕ) (q : Phase) (k : ℕ) → SpendsBy (Some room) Line 255 o q k 1 0 → SpendsBy (Some room) Line kept o q k n 0
+line_within kept n le room None q k s = s
+line_within kept n le room (Some left) q k s = (let h = s.0 in omega (arith, le), s.1, s.2)
 
-line_weaker : (kept : ℕ) → kept < 256 → (o : Option ℕ) (new : Framing) (size : ℕ) → SizedSpends o size new → SpendsBy o Line kept new.room new.phase (length new.kept.items) 1 0
-line_weaker kept lt None new size s = tt
-line_weaker kept lt (Some room) new size s = line_within kept lt room new.room new.phase (length new.kept.items) s
+line_weaker : (kept n : ℕ) → kept + n ≤ 256 → (o : Option ℕ) (new : Framing) (size : ℕ) → SizedSpends o size new → SpendsBy o Line kept new.room new.phase (length new.kept.items) n 0
+line_weaker kept n le None new size s = tt
+line_weaker kept n le (Some room) new size s = line_within kept n le room new.room new.phase (length new.kept.items) s
 
-pub line_sized : (old new : Framing) (b : ℕ) (bytes : List ℕ) (l : ChunkLine) (size : ℕ) → old.phase ≡ Line → bytes ≡ old.kept.items ++ b ∷ [] → length old.kept.items < 256
-    → ReadsChunkLine bytes l [] → size ≡ chunk_size l → (r : Result Unit Stop) → Enters old.room size r new → StepsBy old (b ∷ []) r new
-line_sized old new b bytes l size a k lt x e (Ok u) f = record {
+-- the last bytes of a line lead to what its size asks for
+pub line_sized : (old new : Framing) (run bytes : List ℕ) (l : ChunkLine) (size : ℕ) → old.phase ≡ Line → bytes ≡ old.kept.items ++ run → length bytes ≤ 256
+    → ReadsChunkLine bytes l [] → size ≡ chunk_size l → (r : Result Unit Stop) → Enters old.room size r new → StepsBy old run r new
+line_sized old new run bytes l size a k le x e (Ok u) f = record {
   reads = λ rest v y.
-      let m : Chunks old.room (bytes ++ rest) v = line_reads bytes rest l size old.room v x e (omega (arith, lt, one_more old.kept.items bytes b k)) (f.reads rest v y) in
-      let n : Chunks old.room (old.kept.items ++ b ∷ rest) v = subst (λ (q : List ℕ). Chunks old.room q v) (kept_rest old.kept.items bytes rest b k) m in
-      subst (λ (q : Phase). ReadsAt q old.room old.kept.items (b ∷ rest) (after [] v)) (sym a)
-      (subst (λ (w : Verdict). Chunks old.room (old.kept.items ++ b ∷ rest) w) (sym (after-nil v)) n);
+      let m : Chunks old.room (bytes ++ rest) v = line_reads bytes rest l size old.room v x e le (f.reads rest v y) in
+      let n : Chunks old.room (old.kept.items ++ (run ++ rest)) v = subst (λ (q : List ℕ). Chunks old.room q v) (run_rest old.kept.items bytes run rest k) m in
+      subst (λ (q : Phase). ReadsAt q old.room old.kept.items (run ++ rest) (after [] v)) (sym a)
+      (subst (λ (w : Verdict). Chunks old.room (old.kept.items ++ (run ++ rest)) w) (sym (after-nil v)) n);
   ready = f.ready;
-  spends = subst (λ (q : Phase). SpendsBy (limit_at q old.room) q (length old.kept.items) new.room new.phase (length new.kept.items) 1 0) (sym a)
-      (line_weaker (length old.kept.items) lt old.room new size f.spends);
+  spends = subst (λ (q : Phase). SpendsBy (limit_at q old.room) q (length old.kept.items) new.room new.phase (length new.kept.items) (length run) 0) (sym a)
+      (line_weaker (length old.kept.items) (length run) (omega (arith, le, run_length old.kept.items bytes run k)) old.room new size f.spends);
 }
-line_sized old new b bytes l size a k lt x e (Err (Refused q)) f =
-    refuse_at old Line (b ∷ []) q a
-    (λ rest. subst (λ (y : List ℕ). Chunks old.room y (refused q)) (kept_rest old.kept.items bytes rest b k)
-    (line_reads bytes rest l size old.room (refused q) x e (omega (arith, lt, one_more old.kept.items bytes b k)) (f rest)))
-line_sized old new b bytes l size a k lt x e (Err NoMemory) f = tt
+line_sized old new run bytes l size a k le x e (Err (Refused q)) f =
+    refuse_at old Line run q a
+    (λ rest. subst (λ (y : List ℕ). Chunks old.room y (refused q)) (run_rest old.kept.items bytes run rest k) (line_reads bytes rest l size old.room (refused q) x e le (f rest)))
+line_sized old new run bytes l size a k le x e (Err NoMemory) f = tt
 
-pub line_wrong : (old : Framing) (b : ℕ) (bytes : List ℕ) → old.phase ≡ Line → bytes ≡ old.kept.items ++ b ∷ [] → b ≡ 10 → length old.kept.items < 256 → has_no_feed old.kept.items ≡ true
-    → ((l : ChunkLine) → ¬ (ReadsChunkLine bytes l [])) → (rest : List ℕ) → Reads old (b ∷ rest) (refused refusals.Chunk)
-line_wrong old b bytes a k ten lt plain never =
-    refuse_at old Line (b ∷ []) refusals.Chunk a
+-- or the line is none
+pub line_wrong : (old : Framing) (run bytes : List ℕ) → old.phase ≡ Line → bytes ≡ old.kept.items ++ run → EndsLine bytes → length bytes ≤ 256
+    → ((l : ChunkLine) → ¬ (ReadsChunkLine bytes l [])) → (rest : List ℕ) → Reads old (run ++ rest) (refused refusals.Chunk)
+line_wrong old run bytes a k ends le never =
+    refuse_at old Line run refusals.Chunk a
     (λ rest. record {
       lines = 1;
-      reads = ReadsLine.wrong old.kept.items rest (ap (λ (n : ℕ). old.kept.items ++ n ∷ rest) ten) plain lt
-          (λ l. subst (λ (y : List ℕ). ¬ (ReadsChunkLine y l [])) (k ∙ ap (λ (n : ℕ). old.kept.items ++ n ∷ []) ten) (never l)) refl;
+      reads = ReadsLine.wrong ends.kept rest
+          (sym (run_rest old.kept.items bytes run rest k) ∙ ap (λ (l : List ℕ). l ++ rest) ends.is ∙ append_assoc ends.kept (10 ∷ []) rest) ends.plain
+          (omega (arith, le, ap length ends.is, length-append ends.kept (10 ∷ [])))
+          (λ l. subst (λ (y : List ℕ). ¬ (ReadsChunkLine y l [])) ends.is (never l)) refl;
     })
 
-test_of_ne : (a b : ℕ) → (a ≡ b → ⊥) → (a == b) ≡ false
-test_of_ne a b h = grind (arith, nat_tests)
-
-no_feed_more : (kept : List ℕ) (b : ℕ) → has_no_feed kept ≡ true → (b == 10) ≡ false → has_no_feed (kept ++ b ∷ []) ≡ true
-no_feed_more kept b plain e = no_feed_append kept (b ∷ []) plain (λ i. not (e i) && true)
-
-pub line_long : (old : Framing) (b : ℕ) (bytes : List ℕ) → old.phase ≡ Line → bytes ≡ old.kept.items ++ b ∷ [] → (b ≡ 10 → ⊥) → length bytes ≡ 256 → has_no_feed old.kept.items ≡ true
-    → (rest : List ℕ) → Reads old (b ∷ rest) (refused refusals.Chunk)
-line_long old b bytes a k ten limit plain =
-    refuse_at old Line (b ∷ []) refusals.Chunk a
+-- a line that does not end in so many bytes is too long
+pub line_long : (old : Framing) (run bytes : List ℕ) → old.phase ≡ Line → bytes ≡ old.kept.items ++ run → has_no_feed bytes ≡ true → length bytes ≡ 256
+    → (rest : List ℕ) → Reads old (run ++ rest) (refused refusals.Chunk)
+line_long old run bytes a k plain limit =
+    refuse_at old Line run refusals.Chunk a
     (λ rest. record {
       lines = 1;
-      reads = ReadsLine.long bytes rest (sym (kept_rest old.kept.items bytes rest b k)) (ap has_no_feed k ∙ no_feed_more old.kept.items b plain (test_of_ne b 10 ten)) limit refl;
+      reads = ReadsLine.long bytes rest (sym (run_rest old.kept.items bytes run rest k)) plain limit refl;
     })
-
--- a chunk line that is not all there
-pub line_open : (old new : Framing) (b : ℕ) → old.phase ≡ Line → new.phase ≡ Line → new.room ≡ old.room → new.kept.items ≡ old.kept.items ++ b ∷ [] → (b ≡ 10 → ⊥)
-    → length old.kept.items < 256 → has_no_feed old.kept.items ≡ true → (length new.kept.items ≡ 256 → ⊥) → Moves old new (b ∷ []) []
-line_open old new b a c r k ten lt plain unfull =
-    line_more old new (b ∷ []) a c r k (omega (arith, lt, one_more old.kept.items new.kept.items b k, unfull), ap has_no_feed k ∙ no_feed_more old.kept.items b plain (test_of_ne b 10 ten))
 
 -- ---- the line end behind a chunk
 
@@ -414,19 +405,28 @@ chunk_taken old new left n front a c r l le =
 pub advances : (old new : Framing) (piece before got : List ℕ) (n : ℕ) → 0 < n → n ≤ length piece → got ≡ before ++ take n piece → Moves old new (take n piece) (take n piece) → Advances old new piece before got n
 advances old new piece before got n pos le e m = record { some = pos; within = le; gained = take n piece; grows = e; moves = m }
 
--- a step by one byte is a step
-pub one_step : (old new : Framing) (piece before : List ℕ) (b : ℕ) (rest : List ℕ) → piece ≡ b ∷ rest → (r : Result Unit Stop) → StepsBy old (b ∷ []) r new → Steps old piece before (one_of r) new before
-one_step old new piece before b rest e (Ok u) m =
-    let front : take 1 piece ≡ b ∷ [] = ap (take 1) e in
-    record {
-      some = omega arith;
-      within = omega (arith, ap length e);
-      gained = [];
-      grows = sym (append-nil before);
-      moves = subst (λ (l : List ℕ). Moves old new l []) (sym front) m;
-    }
-one_step old new piece before b rest e (Err (Refused q)) m = (λ more. subst (λ (l : List ℕ). Reads old (l ++ more) (refused q)) (sym e) (m (rest ++ more)), refl)
-one_step old new piece before b rest e (Err NoMemory) m = refl
+-- a step by a run in front of the piece is a step
+pub run_step : (old new : Framing) (piece before run : List ℕ) (n : ℕ) → run ≡ take n piece → 0 < n → n ≤ length piece → (r : Result Unit Stop) → StepsBy old run r new
+    → Steps old piece before (taken_of n r) new before
+run_step old new piece before run n e some within (Ok u) m = record {
+  some = some;
+  within = within;
+  gained = [];
+  grows = sym (append-nil before);
+  moves = subst (λ (l : List ℕ). Moves old new l []) e m;
+}
+run_step old new piece before run n e some within (Err (Refused q)) m = (
+  λ more.
+      subst (λ (l : List ℕ). Reads old l (refused q))
+      (ap (λ (l : List ℕ). l ++ (drop n piece ++ more)) e ∙ sym (append_assoc (take n piece) (drop n piece) more) ∙ ap (λ (l : List ℕ). l ++ more) (take-append-drop n piece))
+      (m (drop n piece ++ more)),
+  refl,
+)
+run_step old new piece before run n e some within (Err NoMemory) m = refl
+
+-- and so is one by a byte
+pub one_step : (old new : Framing) (piece before : List ℕ) (b : ℕ) (rest : List ℕ) → piece ≡ b ∷ rest → (r : Result Unit Stop) → StepsBy old (b ∷ []) r new → Steps old piece before (taken_of 1 r) new before
+one_step old new piece before b rest e r m = run_step old new piece before (b ∷ []) 1 (sym (ap (take 1) e)) (omega arith) (omega (arith, ap length e)) r m
 
 -- the first byte and the rest
 pub first_byte : (piece : List ℕ) → 0 < length piece → piece ≡ get_or piece 0 0 ∷ drop 1 piece

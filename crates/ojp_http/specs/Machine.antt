@@ -72,12 +72,12 @@ is_whole_at (Return has_return) = false
 is_whole_at Trailing = false
 is_whole_at Whole = true
 
--- how many bytes fill what is kept of a head, of a chunk line or of a trailer
+-- how many bytes fill what is kept of a head or of a trailer
 abbrev pub most_kept_at : Phase → ℕ
 most_kept_at Head = 16384
 most_kept_at ReplyHead = 16384
 most_kept_at (Content left) = 0
-most_kept_at Line = 256
+most_kept_at Line = 0
 most_kept_at (Data left) = 0
 most_kept_at (Return has_return) = 0
 most_kept_at Trailing = 16384
@@ -89,10 +89,10 @@ pub record IsRun (most kept : ℕ) (piece : List ℕ) (n : ℕ) : Type 0 where
   pub plain : has_no_feed (take n piece) ≡ true
   pub unfull : 0 < n → kept + n < most
 
--- one byte, where a step by one was made
-abbrev pub one_of : Result Unit Stop → Result ℕ Stop
-one_of (Ok u) = Ok 1
-one_of (Err stop) = Err stop
+-- so many bytes, where a step by them was made
+abbrev pub taken_of : ℕ → Result Unit Stop → Result ℕ Stop
+taken_of n (Ok u) = Ok n
+taken_of n (Err stop) = Err stop
 
 -- the most bytes that may still be taken, where the chunks to come sum up to at most the room
 abbrev pub work_at : Phase → ℕ → ℕ → ℕ

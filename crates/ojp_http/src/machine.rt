@@ -1,8 +1,8 @@
 //! The machine that frames a message: it keeps the bytes of a head, of a chunk line or of a trailer,
 //! and hands on those of the body at once.
-ghost use Rattle.std.specs.Prelude.{◌≡◌, ◌≢◌, ◌++◌, ◌∷◌, [], ◌<◌, ◌≤◌, ◌+◌, OnOk, IfErr, MatchResult, Some, None, ◌^◌, ◌-◌, ℕ, List as Items, min, length, true, false};
-ghost use Rattle.ojp_http.specs.Machine.{IsOpen, IsNewRequest, IsRun, IsNewReply, StepsBy, Enters, Follows, IsBounded, Steps, Feeds, content_left, chunk_left, chunk_start, is_whole_at, most_kept_at, one_of};
-ghost use Rattle.ojp_http.specs.Bodies.{room_after, IsAbove};
+ghost use Rattle.std.specs.Prelude.{◌≡◌, ◌≢◌, ◌++◌, ◌∷◌, [], ◌<◌, ◌≤◌, ◌+◌, OnOk, IfOk, IfErr, MatchResult, Some, None, ◌^◌, ◌-◌, ℕ, List as Items, min, length, true, false};
+ghost use Rattle.ojp_http.specs.Machine.{IsOpen, IsNewRequest, IsRun, IsNewReply, StepsBy, Enters, Follows, IsBounded, Steps, Feeds, content_left, chunk_left, chunk_start, is_whole_at, most_kept_at, taken_of};
+ghost use Rattle.ojp_http.specs.Bodies.{has_no_feed, room_after, IsAbove};
 ghost use Rattle.ojp_http.specs.ChunkLines.{EndsLine, IsLineSize};
 ghost use Rattle.ojp_http.specs.LineCounts.{no_lines, count_step};
 ghost use Rattle.ojp_http.specs.declared.machine.Phase.TheVariants.{Head, ReplyHead, Content, Line, Data, Return, Trailing, Whole};
@@ -175,21 +175,61 @@ impl Framing {
         }
     }
 
-    /// One byte more of a chunk line.
-    fn step_line(&mut self, byte: u8) -> Result<(), Stop>
+    /// Bytes of a chunk line from the front of the piece, up to its line feed.
+    fn step_line(&mut self, piece: &[u8]) -> Result<usize, Stop>
         requires phase { self.old.phase ≡ Line }
         requires ready { IsOpen self.old }
-        ensures { StepsBy self.old (byte ∷ []) result self.new }
+        requires some { 0 < length piece.now }
+        ensures { (body : Items ℕ) → Steps self.old piece.now body result self.new body }
     {
-        let Ok(()) = self.kept.push(byte) else {
+        let most = piece.len().min(LINE_LIMIT - self.kept.len());
+        match memchr(b'\n', &piece[..most]) {
+            Some(end) => taking(end + 1, self.end_line(&piece[..end + 1])),
+            None => taking(most, self.begin_line(&piece[..most])),
+        }
+    }
+
+    /// The last bytes of a chunk line.
+    fn end_line(&mut self, run: &[u8]) -> Result<(), Stop>
+        requires phase { self.old.phase ≡ Line }
+        requires ends { EndsLine (self.old.kept.items ++ run.now) }
+        requires within { length self.old.kept.items + length run.now ≤ 256 }
+        ensures { StepsBy self.old run.now result self.new }
+    {
+        let Ok(size) = self.size_with(run) else {
             return Err(Stop::NoMemory);
         };
-        if byte == b'\n' {
-            return match line_size(&self.kept) {
-                Some(size) => self.enter(size),
-                None => Err(Stop::Refused(Refusal::Chunk)),
-            };
+        match size {
+            Some(size) => self.enter(size),
+            None => Err(Stop::Refused(Refusal::Chunk)),
         }
+    }
+
+    /// The size that a chunk line writes, whose last bytes are these.
+    fn size_with(&mut self, run: &[u8]) -> Result<Option<u64>, Stop>
+        requires { EndsLine (self.old.kept.items ++ run.now) }
+        ensures size { IfOk result (λ size. IsLineSize (self.old.kept.items ++ run.now) size) }
+        ensures room { self.new.room ≡ self.old.room }
+    {
+        if self.kept.is_empty() {
+            return Ok(line_size(run));
+        }
+        match self.kept.extend_from_slice(run) {
+            Ok(()) => Ok(line_size(&self.kept)),
+            Err(_) => Err(Stop::NoMemory),
+        }
+    }
+
+    /// Bytes of a chunk line before its line feed.
+    fn begin_line(&mut self, run: &[u8]) -> Result<(), Stop>
+        requires phase { self.old.phase ≡ Line }
+        requires plain { has_no_feed (self.old.kept.items ++ run.now) ≡ true }
+        requires within { length self.old.kept.items + length run.now ≤ 256 }
+        ensures { StepsBy self.old run.now result self.new }
+    {
+        let Ok(()) = self.kept.extend_from_slice(run) else {
+            return Err(Stop::NoMemory);
+        };
         if self.kept.len() == LINE_LIMIT {
             return Err(Stop::Refused(Refusal::Chunk));
         }
@@ -276,11 +316,11 @@ impl Framing {
         match self.phase {
             Phase::Content(left) => self.take_content(left, piece, body),
             Phase::Data(left) => self.take_data(left, piece, body),
-            Phase::Head => one(self.step_head(byte)),
-            Phase::ReplyHead => one(self.step_reply_head(byte)),
-            Phase::Line => one(self.step_line(byte)),
-            Phase::Return(has_return) => one(self.step_return(has_return, byte)),
-            Phase::Trailing => one(self.step_trailer(byte)),
+            Phase::Head => taking(1, self.step_head(byte)),
+            Phase::ReplyHead => taking(1, self.step_reply_head(byte)),
+            Phase::Line => self.step_line(piece),
+            Phase::Return(has_return) => taking(1, self.step_return(has_return, byte)),
+            Phase::Trailing => taking(1, self.step_trailer(byte)),
             Phase::Whole => unreachable!(),
         }
     }
@@ -334,14 +374,13 @@ fn front_len(left: u64, len: usize) -> usize
     }
 }
 
-/// How many bytes fill what is kept at a phase.
+/// How many bytes fill what is kept of a head or of a trailer.
 fn most_kept(phase: Phase) -> usize
     ensures { result ≡ most_kept_at phase }
 {
     match phase {
         Phase::Head | Phase::ReplyHead | Phase::Trailing => HEAD_LIMIT,
-        Phase::Line => LINE_LIMIT,
-        Phase::Content(_) | Phase::Data(_) | Phase::Return(_) | Phase::Whole => 0,
+        Phase::Content(_) | Phase::Line | Phase::Data(_) | Phase::Return(_) | Phase::Whole => 0,
     }
 }
 
@@ -359,12 +398,12 @@ fn run_len(most: usize, kept: usize, piece: &[u8]) -> usize
     }
 }
 
-/// One byte, where a step by one was made.
-fn one(step: Result<(), Stop>) -> Result<usize, Stop>
-    ensures { result ≡ one_of step }
+/// So many bytes, where a step by them was made.
+fn taking(count: usize, step: Result<(), Stop>) -> Result<usize, Stop>
+    ensures { result ≡ taken_of count step }
 {
     match step {
-        Ok(()) => Ok(1),
+        Ok(()) => Ok(count),
         Err(stop) => Err(stop),
     }
 }

@@ -2,22 +2,22 @@
 #![tactic(auto)]
 
 pub mod above;
-pub mod calls;
+mod calls;
 mod checks;
 pub mod draft;
 mod fields;
-pub mod kept;
+mod kept;
 pub mod laws;
-pub mod lines;
+mod lines;
 mod point_lists;
 mod read_words;
 pub mod reading;
 mod reason_words;
-pub mod refusals;
+mod refusals;
 mod rides;
 mod said;
 pub mod stops;
-pub mod table;
+mod table;
 pub mod words;
 
 pub use calls::Call;

@@ -1,20 +1,32 @@
-use Rattle.std.proofs.Common.{◌∙◌, arith}
+use Rattle.std.proofs.Common.{◌≡◌, ◌+◌, refl, sym, subst, arith, take, length}
+use Rattle.std.proofs.lemmas.List.{length-take-le}
 use Rattle.ojp_http.specs.declared.machine.Phase.TheVariants.{Line}
-use Rattle.ojp_http.proofs.Stepping.{open_at, line_sized, line_wrong, line_long}
+use Rattle.ojp_http.specs.Machine.{Steps}
+use Rattle.ojp_http.proofs.Stepping.{open_at, run_step}
+use Rattle.ojp_http.proofs.Runs.{line_front, line_found}
 use Rattle.ojp_http.proofs.machine.Framing.step_line.Goals as goal
+
+pub end_line-requires-clause-ends : goal.end_line-requires-clause-ends
+end_line-requires-clause-ends c =
+    line_found c.args.self.now.kept.items c.args.piece.now c.min-most.result c.in-Some.end (open_at c.args.self.now Line c.requires.phase c.requires.ready).1
+    (omega (arith, c.min-most.ensures)) c.in-Some.ensures
+
+pub begin_line-requires-clause-plain : goal.begin_line-requires-clause-plain
+begin_line-requires-clause-plain c =
+    line_front c.args.self.now.kept.items c.args.piece.now c.min-most.result (open_at c.args.self.now Line c.requires.phase c.requires.ready).1 (omega (arith, c.min-most.ensures)) c.in-None.ensures
 
 pub returns-in-Some : goal.returns-in-Some
 returns-in-Some c =
-    let o = open_at c.args.self.now Line c.requires.phase c.requires.ready in
-    line_sized c.args.self.now c.enter.new.self c.args.byte _ c.in-Some.ensures.0 c.in-Some.size c.requires.phase (c.deref.ensures.value ∙ c.in-Ok.ensures.items) o.0
-    c.in-Some.ensures.1 c.in-Some.ensures.2 c.enter.result c.enter.ensures
+    let size : length (take c.min-most.result c.args.piece.now) ≡ c.min-most.result = length-take-le c.min-most.result c.args.piece.now (omega (arith, c.min-most.ensures)) in
+    λ body.
+    subst (λ r. Steps c.args.self.now c.args.piece.now body r c.end_line.new.self body) (sym c.taking.ensures)
+    (run_step c.args.self.now c.end_line.new.self c.args.piece.now body _ (c.in-Some.end + 1) refl (omega arith)
+    (omega (arith, size, c.in-Some.ensures.0.high, c.min-most.ensures)) c.end_line.result c.end_line.ensures)
 
 pub returns-in-None : goal.returns-in-None
 returns-in-None c =
     let o = open_at c.args.self.now Line c.requires.phase c.requires.ready in
-    line_wrong c.args.self.now c.args.byte _ c.requires.phase (c.deref.ensures.value ∙ c.in-Ok.ensures.items) c.if-byte-eq10.true o.0 o.1 c.in-None.ensures
-
-pub returns-then-len-eq-LINE_LIMIT : goal.returns-then-len-eq-LINE_LIMIT
-returns-then-len-eq-LINE_LIMIT c =
-    let o = open_at c.args.self.now Line c.requires.phase c.requires.ready in
-    line_long c.args.self.now c.args.byte _ c.requires.phase c.in-Ok.ensures.items c.if-byte-eq10.false (omega (arith, c.push.new.self.ok.0, c.len.ensures, c.if-len-eq-LINE_LIMIT.true)) o.1
+    λ body.
+    subst (λ r. Steps c.args.self.now c.args.piece.now body r c.begin_line.new.self body) (sym c.taking-in-None.ensures)
+    (run_step c.args.self.now c.begin_line.new.self c.args.piece.now body _ c.min-most.result refl
+    (omega (arith, c.min-most.ensures, o.0, c.len.ensures, c.args.self.now.kept.ok.0, c.requires.some)) (omega (arith, c.min-most.ensures)) c.begin_line.result c.begin_line.ensures)
