@@ -4,29 +4,17 @@ ghost use Rattle.std.specs.Prelude.{◌≡◌, ◌<◌, ◌≤◌, false, length
 ghost use Rattle.ojp_links.specs.Seen.{IsLive, NoneLive};
 ghost use Rattle.ojp_links.specs.Calls.{Asks, Closes, Looks, MayReject, Rejects, RestsOnce};
 ghost use Rattle.ojp_links_mem.specs.Memory.{AsksBy, ClosesBy, GivesBy, RejectsBy, RestsBy};
-ghost use Rattle.ojp_links_mem.specs.Files.{HasReadNone, OpenEnds, ReadEnds, ReadsFile, RenumbersFiles, SameFiles, StaysShut, files_seen, links_seen};
+ghost use Rattle.ojp_links_mem.specs.Files.{HasReadNone, OpenEnds, ReadEnds, RenumbersFiles, SameFiles, StaysShut, files_seen, links_seen};
 
 use crate::memory::MemLinks;
 use crate::twice::twice_in;
 use ojp_links::{AskRefused, Expect, Links, More, PacedLinks, Sub};
-use ojp_outside::{Store, StoreRefused};
-use ojp_timetable::{TableReason, TableRefused, Timetable};
+use ojp_outside::Store;
+use ojp_region::{FileRefused, read_table};
+use ojp_timetable::Timetable;
 use ojp_values::Code;
 use std::alloc::Global;
 use std::mem;
-
-/// Why a file gives no timetable.
-#[derive(Clone, Copy, Debug, PartialEq, Eq)]
-pub enum FileRefused {
-    /// The file could not be read; the store's count of faults rose.
-    Failed,
-    /// The file has more bytes than a file may have.
-    TooLong,
-    /// The file is no timetable: its first line that fails a check, and the check.
-    At { line: u64, reason: TableReason },
-    /// Memory ran out.
-    NoMemory,
-}
 
 /// Why links were not opened.
 #[derive(Clone, Copy, Debug, PartialEq, Eq)]
@@ -46,23 +34,6 @@ pub struct FileLinks<F: Store + Drop> {
     tables: Vec<Timetable>,
     is_open: bool,
     links: MemLinks,
-}
-
-/// Reads the file of the store, which is to be a timetable.
-fn read_table<F: Store>(alloc: Global, store: &mut F, file: &str) -> Result<Timetable, FileRefused>
-    ensures { ReadsFile file.now (F.seen store.old) (F.seen store.new) result }
-{
-    let bytes = match store.read_file(alloc, file) {
-        Ok(bytes) => bytes,
-        Err(StoreRefused::Failed) => return Err(FileRefused::Failed),
-        Err(StoreRefused::TooLong) => return Err(FileRefused::TooLong),
-        Err(StoreRefused::NoMemory) => return Err(FileRefused::NoMemory),
-    };
-    match Timetable::read(alloc, &bytes) {
-        Ok(table) => Ok(table),
-        Err(TableRefused::At { line, reason }) => Err(FileRefused::At { line, reason }),
-        Err(TableRefused::NoMemory) => Err(FileRefused::NoMemory),
-    }
 }
 
 impl<F: Store + Drop> FileLinks<F> {
@@ -88,7 +59,7 @@ impl<F: Store + Drop> FileLinks<F> {
         ensures ends { ReadEnds name.now (files_seen F.seen self.old) (files_seen F.seen self.new) result }
         ensures shut { StaysShut (files_seen F.seen self.old) (files_seen F.seen self.new) }
     {
-        let table = read_table(self.alloc, &mut self.store, name)?;
+        let table = read_table(self.alloc, name, &mut self.store)?;
         let code = table.region();
         let Ok(()) = self.tables.push(table) else {
             return Err(FileRefused::NoMemory);

@@ -10,6 +10,6 @@ mod server;
 mod sorting;
 mod twice;
 
-pub use files::{FileLinks, FileRefused, OpenRefused};
+pub use files::{FileLinks, OpenRefused};
 pub use memory::MemLinks;
 pub use script::{Script, What};

@@ -9,8 +9,8 @@ use Rattle.ojp_regions.specs.RegionsText.{IsText, IsListRefused}
 use Rattle.ojp_regions.specs.declared.line.RegionLine.{RegionLine}
 use Rattle.ojp_steps.specs.Lent.{Lent, before}
 use Rattle.ojp_steps.specs.Files.{StandsAsBefore, FailsToOpen, IsTooLong, IsReadable}
-use Rattle.ojp_steps.specs.declared.files.FileRefused.{FileRefused}
-use Rattle.ojp_steps.specs.declared.files.FileRefused.TheVariants.{Failed, TooLong, At, NoMemory}
+use Rattle.ojp_region.specs.declared.files.FileRefused.{FileRefused}
+use Rattle.ojp_region.specs.declared.files.FileRefused.TheVariants.{Failed, TooLong, At, NoMemory}
 
 -- the file, where the store tells its contents, is the text of these regions, and no read failed
 pub record IsFileOf {F : Type 0} (file : Text) (store : Lent F StoreView) (regions : List RegionLine) : Type 0 where

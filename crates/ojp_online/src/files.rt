@@ -4,8 +4,8 @@ ghost use Rattle.ojp_steps.specs.Lent.{lent};
 ghost use Rattle.ojp_online.specs.RegionFiles.{ReadsRegions};
 
 use ojp_outside::{Store, StoreRefused};
+use ojp_region::FileRefused;
 use ojp_regions::{RegionLine, RegionsRefused, read_regions};
-use ojp_steps::files::FileRefused;
 use ojp_values::List;
 use std::alloc::Global;
 

@@ -7,8 +7,9 @@ ghost use Rattle.ojp_steps.specs.Serving.{seen_as};
 ghost use Rattle.ojp_online.specs.Regions.{RegionServed, RegionFails};
 
 use ojp_outside::{Doors, Sink, Store};
+use ojp_region::read_table;
 use ojp_steps::failures::Failure;
-use ojp_steps::files::{failure_of, read_table};
+use ojp_steps::files::failure_of;
 use ojp_steps::serving::{Listening, NotServed, serve_at};
 use std::alloc::Global;
 use std::sync::Wait;

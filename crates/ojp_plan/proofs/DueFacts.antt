@@ -16,7 +16,8 @@ use Rattle.ojp_exchange.specs.Book.{Book, points_of}
 use Rattle.ojp_exchange.specs.Joins.{IsJoined, JoinFails}
 use Rattle.ojp_exchange.specs.declared.refusals.BookRefused.{BookRefused}
 use Rattle.ojp_exchange.specs.declared.refusals.BookRefused.TheVariants as refusals
-use Rattle.ojp_links_mem.specs.Files.{FilesView, FailsToRead, IsTooLong, IsRefusedFile}
+use Rattle.ojp_region.specs.Files.{FailsToRead, IsTooLong, IsRefusedFile}
+use Rattle.ojp_links_mem.specs.Files.{FilesView}
 use Rattle.ojp_steps.specs.Lent.{Lent, before, after}
 use Rattle.ojp_steps.specs.Endings.{HasEnding, Concludes}
 use Rattle.ojp_steps.specs.declared.failures.Failure.{Failure}

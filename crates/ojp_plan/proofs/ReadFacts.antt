@@ -5,13 +5,15 @@ use Rattle.ojp_values.specs.Texts.{Text}
 use Rattle.ojp_outside.specs.Seen.{StoreView}
 use Rattle.ojp_timetable.specs.Tables.{Timetable}
 use Rattle.ojp_timetable.specs.declared.lines.TableReason.{TableReason}
-use Rattle.ojp_links_mem.specs.Files.{FilesView, IsFileOf, IsRefusedFile, ReadsFile}
-use Rattle.ojp_links_mem.specs.declared.files.FileRefused.{FileRefused}
-use Rattle.ojp_links_mem.specs.declared.files.FileRefused.TheVariants as refused
+use Rattle.ojp_region.specs.Files.{IsFileOf, IsRefusedFile, ReadsFile}
+use Rattle.ojp_links_mem.specs.Files.{FilesView}
+use Rattle.ojp_region.specs.declared.files.FileRefused.{FileRefused}
+use Rattle.ojp_region.specs.declared.files.FileRefused.TheVariants as refused
+use Rattle.ojp_steps.specs.Files.{IsOfFile}
 use Rattle.ojp_steps.specs.Lent.{Lent, before, after}
 use Rattle.ojp_steps.specs.declared.failures.Failure.{Failure}
 use Rattle.ojp_steps.specs.declared.failures.Failure.TheVariants.{Unread, TooLong, Memory, Line}
-use Rattle.ojp_plan.specs.Files.{AreTextsOf, FilesFail, IsOfRefusal, IsTextOf, StopsAt}
+use Rattle.ojp_plan.specs.Files.{AreTextsOf, FilesFail, IsTextOf, StopsAt}
 
 -- ---- lists
 
@@ -65,7 +67,7 @@ one_more_text f first old new words taken word file tables now table e is same h
 
 module _ {F S : Type 0} (f : S → Text) (words : List S) (files : Lent F FilesView) (i : ℕ) (word : S) (tables : List Timetable) (within : i < length words) (is : word ≡ get_or words i word)
     (accepted : AreTextsOf (before files).store (map f (take i words)) tables) where
-  fails : (refused : FileRefused) (failure : Failure) → ReadsFile (f word) (before files).store (after files).store (Err refused) → IsOfRefusal (f word) refused failure
+  fails : (refused : FileRefused) (failure : Failure) → ReadsFile (f word) (before files).store (after files).store (Err refused) → IsOfFile (f word) refused failure
       → FilesFail (map f words) files failure
   fails refused.Failed (Unread name) r e = stopped f (before files).store _ words i word tables within is accepted (e, r)
   fails refused.TooLong (TooLong name) r e = stopped f (before files).store _ words i word tables within is accepted (e, r)
@@ -80,9 +82,9 @@ module _ {F S : Type 0} (f : S → Text) (words : List S) (files : Lent F FilesV
 
   -- a file could not be taken
   pub fails_at : (old : StoreView) (file name : Text) (refused : FileRefused) (failure : Failure) → old ≡ (before files).store → file ≡ f word → name ≡ f word
-      → ReadsFile file old (after files).store (Err refused) → IsOfRefusal name refused failure → FilesFail (map f words) files failure
+      → ReadsFile file old (after files).store (Err refused) → IsOfFile name refused failure → FilesFail (map f words) files failure
   fails_at old file name refused failure same as_file as_name r e =
       fails refused failure
       (subst (λ (t : Text). ReadsFile t (before files).store (after files).store (Err refused)) as_file
       (subst (λ (s : StoreView). ReadsFile file s (after files).store (Err refused)) same r))
-      (subst (λ (t : Text). IsOfRefusal t refused failure) as_name e)
+      (subst (λ (t : Text). IsOfFile t refused failure) as_name e)

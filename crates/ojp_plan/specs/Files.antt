@@ -11,9 +11,8 @@ use Rattle.ojp_exchange.specs.Joins.{IsJoined, JoinFails}
 use Rattle.ojp_exchange.specs.declared.refusals.BookRefused.{BookRefused}
 use Rattle.ojp_exchange.specs.declared.refusals.BookRefused.TheVariants as refusals
 use Rattle.ojp_outside.specs.declared.store.TheConstants.{FILE_LIMIT}
-use Rattle.ojp_links_mem.specs.Files.{FilesView, FailsToRead, IsTooLong, IsRefusedFile}
-use Rattle.ojp_links_mem.specs.declared.files.FileRefused.{FileRefused}
-use Rattle.ojp_links_mem.specs.declared.files.FileRefused.TheVariants as files
+use Rattle.ojp_region.specs.Files.{FailsToRead, IsTooLong, IsRefusedFile}
+use Rattle.ojp_links_mem.specs.Files.{FilesView}
 use Rattle.ojp_links_mem.specs.declared.files.OpenRefused.{OpenRefused}
 use Rattle.ojp_links_mem.specs.declared.files.OpenRefused.TheVariants as opens
 use Rattle.ojp_steps.specs.Lent.{Lent, before, after}
@@ -65,14 +64,6 @@ FilesFail names files TooMany = MakesNoBook (before files).store names refusals.
 FilesFail names files (Disagree point left right) = MakesNoBook (before files).store names (refusals.Disagree point left right)
 FilesFail names files Memory = Unit {0}
 FilesFail names files failure = ⊥
-
--- the failure of a command that could not take the file of this name
-abbrev pub IsOfRefusal : Text → FileRefused → Failure → Type 0
-IsOfRefusal name files.Failed (Unread file) = file.now ≡ name
-IsOfRefusal name files.TooLong (TooLong file) = file.now ≡ name
-IsOfRefusal name (files.At line reason) (Line file at cause) = (file.now ≡ name) × (at ≡ line) × (cause ≡ reason)
-IsOfRefusal name files.NoMemory Memory = Unit {0}
-IsOfRefusal name refused failure = ⊥
 
 -- why there is no book where the links were not opened
 abbrev pub reason_of_opening : OpenRefused → BookRefused

@@ -1,13 +1,14 @@
 //! The files are read, in their order.
 
-ghost use Rattle.std.specs.Prelude.{◌≡◌, map, string_bytes};
+ghost use Rattle.std.specs.Prelude.{map, string_bytes};
 ghost use Rattle.ojp_links_mem.specs.Files.{HasReadNone, files_seen};
 ghost use Rattle.ojp_steps.specs.Lent.{lent};
-ghost use Rattle.ojp_plan.specs.Files.{IsOfRefusal, ReadsFiles};
+ghost use Rattle.ojp_plan.specs.Files.{ReadsFiles};
 
-use ojp_links_mem::{FileLinks, FileRefused};
+use ojp_links_mem::FileLinks;
 use ojp_outside::Store;
 use ojp_steps::failures::Failure;
+use ojp_steps::files::failure_of;
 
 /// Reads the files, which are to be timetables, up to the first that is none.
 pub(crate) fn read_files<'a, F: Store + Drop>(
@@ -24,16 +25,4 @@ pub(crate) fn read_files<'a, F: Store + Drop>(
         }
     }
     Ok(())
-}
-
-/// The failure of a command that could not take the file.
-fn failure_of<'a>(file: &'a str, refused: FileRefused) -> Failure<'a>
-    ensures { IsOfRefusal file.now refused result }
-{
-    match refused {
-        FileRefused::Failed => Failure::Unread { file },
-        FileRefused::TooLong => Failure::TooLong { file },
-        FileRefused::At { line, reason } => Failure::Line { file, line, reason },
-        FileRefused::NoMemory => Failure::Memory,
-    }
 }

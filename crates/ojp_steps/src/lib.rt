@@ -1,4 +1,4 @@
-//! The steps that several commands of the program `ojp` share: reading a document or a file, serving the connections
+//! The steps that several commands of the program `ojp` share: reading a document, serving the connections
 //! of a port, and how a command fails, with its status and its line.
 #![tactic(auto)]
 
