@@ -103,20 +103,6 @@ run_count (b ∷ c ∷ run) s h =
     ∙ run_count (c ∷ run) (record { begun = begun_step s.begun b; counted = s.counted; has_empty = s.has_empty }) two.1
     ∙ ap (λ (t : Begun). record { begun = t; counted = s.counted; has_empty = s.has_empty }) (begun_more s.begun b c run)
 
-pub begun_none : (begun : Begun) (run : List ℕ) → length run ≡ 0 → begun ≡ begun_run begun run
-begun_none begun [] e = refl
-begun_none begun (b ∷ run) e = absurd (omega arith)
-
-pub begun_one : (begun : Begun) (run : List ℕ) → length run ≡ 1 → begun_step begun (get_or run 0 0) ≡ begun_run begun run
-begun_one begun [] e = absurd (omega arith)
-begun_one begun (b ∷ []) e = refl
-begun_one begun (b ∷ c ∷ run) e = absurd (omega arith)
-
-pub begun_many : (begun : Begun) (run : List ℕ) → (length run ≡ 0 → ⊥) → (length run ≡ 1 → ⊥) → Other ≡ begun_run begun run
-begun_many begun [] none one = absurd (none refl)
-begun_many begun (b ∷ []) none one = absurd (one refl)
-begun_many begun (b ∷ c ∷ run) none one = refl
-
 -- ---- heads and trailers
 
 -- bytes whose lines are as many stay below the limits

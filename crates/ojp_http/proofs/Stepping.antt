@@ -128,10 +128,6 @@ by_room old new p n np r spends (Some room) e =
 run_length : (kept new run : List ℕ) → new ≡ kept ++ run → length new ≡ length kept + length run
 run_length kept new run e = ap length e ∙ length-append kept run
 
--- one byte was kept
-one_more : (kept new : List ℕ) (b : ℕ) → new ≡ kept ++ b ∷ [] → length new ≡ length kept + 1
-one_more kept new b e = run_length kept new (b ∷ []) e
-
 pub head_more : (old new : Framing) (run : List ℕ) → old.phase ≡ Head → new.phase ≡ Head → new.room ≡ old.room → new.kept.items ≡ old.kept.items ++ run
     → IsOpenAt Head new.kept.items new.count → Moves old new run []
 head_more old new run a c r k ready =
