@@ -1,18 +1,18 @@
 -- The hops that a network has are those of its table, in order.
-use Rattle.std.proofs.Common.{◌≡◌, ℕ, zero, suc, ◌+◌, ◌<◌, ◌≤◌, ◌⊎◌, List, [], ◌∷◌, Some, length, map, sym, ap, subst, refl, inl, inr, arith, slice_get, ◌∙◌}
+use Rattle.std.proofs.Common.{◌≡◌, ℕ, zero, suc, ◌+◌, ◌<◌, ◌⊎◌, List, [], ◌∷◌, Some, map, sym, ap, subst, refl, inl, inr, arith, slice_get, ◌∙◌}
 use Rattle.std.proofs.lemmas.Option.{none-some, same_Some, slice_get_within}
 use Rattle.ojp_values.specs.Lists.{Among}
-use Rattle.ojp_timetable.specs.Tables.{Timetable, Journey}
+use Rattle.ojp_timetable.specs.Tables.{Timetable}
 use Rattle.ojp_timetable.specs.declared.calls.Call.{Call}
-use Rattle.ojp_timetable.specs.Runs.{IsWell}
 use Rattle.ojp_sweep.specs.declared.connections.Connection.{Connection}
 use Rattle.ojp_sweep.specs.declared.connections.Connections.{Connections}
 use Rattle.ojp_sweep.specs.Rides.{IsAt}
 use Rattle.ojp_scan.specs.declared.hops.Hop.{Hop}
-use Rattle.ojp_scan.specs.Hops.{IsHop, LeavesAt, StandsBefore, IsBefore, AreHops}
+use Rattle.ojp_scan.specs.Hops.{IsHop, LeavesAt, StandsBefore, AreHops}
 use Rattle.ojp_scan.specs.Networks.{IsConnection, IsNetworkFor}
 use Rattle.ojp_scan.specs.Scans.{hop_of}
-use Rattle.ojp_scan.proofs.TableFacts.{one-call, Among-slice_get, slice_get-Among}
+use Rattle.ojp_values.proofs.EachFacts.{at_among}
+use Rattle.ojp_scan.proofs.TableFacts.{one-call}
 
 -- what is read of a list of hops
 read-hop : (connections : List Connection) (n : ℕ) (hop : Hop) → slice_get (map hop_of connections) n ≡ Some hop → (c : Connection) × (slice_get connections n ≡ Some c) × (hop ≡ hop_of c)
@@ -44,7 +44,7 @@ module _ (net : Connections) (table : Timetable) (net-is : IsNetworkFor net tabl
       record {
         just_these = λ hop. (
           λ among.
-              let n = slice_get-Among (map hop_of net.sorted.items) hop among in
+              let n = at_among (map hop_of net.sorted.items) hop among in
               let c = read-hop net.sorted.items n.0 hop n.1 in
               let x = connection-is n.0 c.0 c.1 in
               subst (IsHop table) (sym c.2) (record { of = x.of; at = x.at; within = slice_get_within x.of.calls (c.0.position + 1) x.alight x.alight_at }),

@@ -1,5 +1,5 @@
 -- The numbers of stops among the places of a table.
-use Rattle.std.proofs.Common.{◌≡◌, ℕ, zero, suc, ◌+◌, ◌<◌, ◌≤◌, List, [], ◌∷◌, Bool, true, false, cond, not, nat_lt, Option, Some, None, length, get_or, sym, ap, subst, refl, inl, inr, arith, slice_get, ◌∙◌, true≢false, find, option_map}
+use Rattle.std.proofs.Common.{◌≡◌, ℕ, ◌+◌, ◌<◌, ◌≤◌, List, [], ◌∷◌, true, false, cond, not, nat_lt, Option, Some, None, length, get_or, sym, ap, subst, refl, inl, inr, arith, slice_get, ◌∙◌, true≢false, find, option_map}
 use Rattle.std.specs.Prelude.{bytes_eq, position, MatchOption}
 use Rattle.std.specs.List.{position_or_len}
 use Rattle.std.proofs.lemmas.Bool.{cases_Bool, cases_lt, lt-ltb}
@@ -17,7 +17,8 @@ use Rattle.ojp_timetable.specs.Views.{place_view}
 use Rattle.ojp_timetable.specs.Runs.{IsWell}
 use Rattle.ojp_scan.specs.Networks.{place_number, HaveNumbers}
 use Rattle.ojp_scan.specs.Views.{IsPlaceOf}
-use Rattle.ojp_scan.proofs.TableFacts.{call-well, one-read, within-read, Among-slice_get, slice_get-Among}
+use Rattle.ojp_values.proofs.EachFacts.{read_at, read_once}
+use Rattle.ojp_scan.proofs.TableFacts.{call-well}
 
 bytes-same : (x y : Text) → x ≡ y → bytes_eq x y ≡ true
 bytes-same x y e = (bytes_eq-Decides x y).1 e
@@ -34,7 +35,7 @@ no-place = record { stop = []; change = 0; name = [] }
 -- the place that is seen at a number
 pub place-seen : (table : Timetable) (k : ℕ) (view : PlaceView) → k < length table.places → Some view ≡ option_map place_view (slice_get table.places k) → IsPlaceAt table view.stop k
 place-seen table k view h e =
-    let r = within-read table.places k h in
+    let r = read_at table.places k h in
     let same_view = same_Some view (place_view r.0) (e ∙ ap (λ (o : Option Place). option_map place_view o) r.1) in
     record { place = r.0; at = r.1; stop_is = ap (λ (v : PlaceView). v.stop) (sym same_view) }
 
@@ -56,7 +57,7 @@ pub one-stop : (table : Timetable) (s r : Text) (k : ℕ) → place_number table
 one-stop table s r k a b =
     let x = number-read table s k a in
     let y = number-read table r k b in
-    sym x.stop_is ∙ (ap (λ (p : Place). p.stop) (one-read table.places k k x.place y.place refl x.at y.at) ∙ y.stop_is)
+    sym x.stop_is ∙ (ap (λ (p : Place). p.stop) (read_once table.places k k x.place y.place refl x.at y.at) ∙ y.stop_is)
 
 -- the stop of a place has a number
 pub number-known : (table : Timetable) (stop : Text) → IsPlaceOf table stop → (k : ℕ) × (place_number table stop ≡ Some k)
@@ -151,7 +152,7 @@ module _ {S : Type 0} (table : Timetable) where
             | inl before ↦ h k p before p_at e
             | inr from ↦
                 let here : k ≡ count = omega arith in
-                let same_place = one-read table.places k count p place here p_at at in
+                let same_place = read_once table.places k count p place here p_at at in
                 true≢false (sym (bytes-same place.stop stop (ap (λ (x : Place). x.stop) (sym same_place) ∙ e)) ∙ other)
           ]
 

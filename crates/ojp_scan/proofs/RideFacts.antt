@@ -1,11 +1,12 @@
 -- Legs of a table are the rides of its network.
-use Rattle.std.proofs.Common.{◌≡◌, ℕ, ◌+◌, ◌-◌, ◌*◌, ◌<◌, ◌≤◌, List, [], ◌∷◌, Some, true, false, length, sym, ap, subst, refl, inl, inr, arith, slice_get, slice_index, ◌∙◌}
+use Rattle.std.proofs.Common.{◌≡◌, ℕ, ◌+◌, ◌-◌, ◌<◌, ◌≤◌, Some, length, sym, ap, subst, refl, inl, inr, arith, slice_get, slice_index, ◌∙◌}
 use Rattle.std.proofs.lemmas.Option.{none-some, same_Some, slice_get_within}
 use Rattle.ojp_values.specs.Texts.{Text}
+use Rattle.ojp_values.specs.declared.moments.TheConstants.{FIRST_DAY, LAST_DAY}
 use Rattle.ojp_values.specs.declared.trips.Leg.{Leg}
 use Rattle.ojp_timetable.specs.Tables.{Timetable, Journey, change_of}
 use Rattle.ojp_timetable.specs.declared.calls.Call.{Call}
-use Rattle.ojp_timetable.specs.Runs.{IsWell, IsLeg, RunsOn, moment, leg_of}
+use Rattle.ojp_timetable.specs.Runs.{IsWell, IsLeg, RunsOn, moment}
 use Rattle.ojp_sweep.specs.declared.connections.Connection.{Connection}
 use Rattle.ojp_sweep.specs.declared.connections.Connections.{Connections}
 use Rattle.ojp_sweep.specs.declared.connections.Days.{Days}
@@ -14,14 +15,15 @@ use Rattle.ojp_sweep.specs.Rides.{IsAt, Ride, IsRide, Runs, Transfers, AreDaysOf
 use Rattle.ojp_scan.specs.Networks.{place_number, IsConnection, IsNetworkFor}
 use Rattle.ojp_scan.specs.Days.{CoverWindow, AreDaysFrom}
 use Rattle.ojp_scan.specs.Walks.{AreEnds, leg_between}
-use Rattle.ojp_scan.proofs.TableFacts.{one-read, within-read, Among-slice_get, slice_get-Among, departs-offset}
+use Rattle.ojp_values.proofs.EachFacts.{among_at, at_among, read_at, read_once}
+use Rattle.ojp_scan.proofs.TableFacts.{departs-offset}
 use Rattle.ojp_scan.proofs.PlaceFacts.{number-read, change-is}
 use Rattle.ojp_scan.proofs.DayFacts.{on-four-days, base-low, moment-is, marks-tell}
 
 -- the leg between two hops of a run is a leg
 pub leg-between-is : (table : Timetable) (day : ℕ) (c d : Connection) (ends : AreEnds table c d) → RunsOn table ends.board.of.service day → IsLeg table (leg_between table day c d ends)
 leg-between-is table day c d ends runs =
-    let same_journey = one-read table.journeys d.journey c.journey ends.alight.of ends.board.of (sym ends.journey) ends.alight.at ends.board.at in
+    let same_journey = read_once table.journeys d.journey c.journey ends.alight.of ends.board.of (sym ends.journey) ends.alight.at ends.board.at in
     record {
       journey = ends.board.of;
       day = day;
@@ -31,7 +33,7 @@ leg-between-is table day c d ends runs =
       alight = ends.alight.alight;
       leaves = c.departs;
       comes = d.arrives;
-      of_table = Among-slice_get table.journeys c.journey ends.board.of ends.board.at;
+      of_table = among_at table.journeys c.journey ends.board.of ends.board.at;
       runs = runs;
       later = let h = ends.in_order in omega arith;
       board_at = ends.board.board_at;
@@ -74,7 +76,7 @@ module _ (net : Connections) (table : Timetable) (days : Days) (first : ℕ) (we
       ap (λ xs. slice_index xs j) net-is.is.services_are ∙ net-is.services_are.is j of (slice_get_within table.journeys j of at) at
 
   service-within : (j : ℕ) (of : Journey) → slice_get table.journeys j ≡ Some of → of.service < length table.services
-  service-within j of at = well.services of (Among-slice_get table.journeys j of at)
+  service-within j of at = well.services of (among_at table.journeys j of at)
 
   number-in : (j : ℕ) (of : Journey) → slice_get table.journeys j ≡ Some of → slice_index net.services.items j < length table.services
   number-in j of at = subst (λ s. s < length table.services) (sym (service-is j of at)) (service-within j of at)
@@ -126,18 +128,18 @@ module _ (net : Connections) (table : Timetable) (days : Days) (first : ℕ) (we
 
     pub ride-of-leg : RideOfLeg leg
     ride-of-leg =
-        let at = slice_get-Among table.journeys l.journey l.of_table in
+        let at = at_among table.journeys l.journey l.of_table in
         let end = slice_get_within l.journey.calls l.j l.alight l.alight_at in
         let later = l.later in
         let c = hop-kept at.0 l.i l.journey at.1 (omega arith) in
         let d = hop-kept at.0 (l.j - 1) l.journey at.1 (omega arith) in
         let x = connection-hop c.n c.connection c.at in
         let y = connection-hop d.n d.connection d.at in
-        let of = one-read table.journeys c.connection.journey at.0 x.of l.journey c.journey x.at at.1 in
-        let to = one-read table.journeys d.connection.journey at.0 y.of l.journey d.journey y.at at.1 in
+        let of = read_once table.journeys c.connection.journey at.0 x.of l.journey c.journey x.at at.1 in
+        let to = read_once table.journeys d.connection.journey at.0 y.of l.journey d.journey y.at at.1 in
         let next : d.connection.position + 1 ≡ l.j = let e = d.position in omega arith in
-        let board : x.board ≡ l.board = one-read l.journey.calls c.connection.position l.i x.board l.board c.position (subst (λ (j : Journey). slice_get j.calls c.connection.position ≡ Some x.board) of x.board_at) l.board_at in
-        let alight : y.alight ≡ l.alight = one-read l.journey.calls (d.connection.position + 1) l.j y.alight l.alight next (subst (λ (j : Journey). slice_get j.calls (d.connection.position + 1) ≡ Some y.alight) to y.alight_at) l.alight_at in
+        let board : x.board ≡ l.board = read_once l.journey.calls c.connection.position l.i x.board l.board c.position (subst (λ (j : Journey). slice_get j.calls c.connection.position ≡ Some x.board) of x.board_at) l.board_at in
+        let alight : y.alight ≡ l.alight = read_once l.journey.calls (d.connection.position + 1) l.j y.alight l.alight next (subst (λ (j : Journey). slice_get j.calls (d.connection.position + 1) ≡ Some y.alight) to y.alight_at) l.alight_at in
         let leaves : c.connection.departs ≡ l.leaves = same_Some c.connection.departs l.leaves (sym x.departs ∙ (ap (λ (k : Call). k.departs) board ∙ l.leaves_at)) in
         let comes : d.connection.arrives ≡ l.comes = same_Some d.connection.arrives l.comes (sym y.arrives ∙ (ap (λ (k : Call). k.arrives) alight ∙ l.comes_at)) in
         let offset = departs-offset table well at.0 l.i l.journey l.board l.leaves at.1 l.board_at l.leaves_at in
@@ -145,8 +147,8 @@ module _ (net : Connections) (table : Timetable) (days : Days) (first : ℕ) (we
         let after : first ≤ l.day = let w = there-in.0 in omega arith in
         let day : first + (l.day - first) ≡ l.day = omega arith in
         let four : l.day - first < 4 = let w = there-in.1 in omega arith in
-        let low : 2 ≤ first + (l.day - first) = subst (λ n. 2 ≤ n) (sym day) l.runs.low in
-        let high : first + (l.day - first) ≤ 84002 = subst (λ n. n ≤ 84002) (sym day) l.runs.high in
+        let low : FIRST_DAY ≤ first + (l.day - first) = subst (λ n. FIRST_DAY ≤ n) (sym day) l.runs.low in
+        let high : first + (l.day - first) ≤ LAST_DAY = subst (λ n. n ≤ LAST_DAY) (sym day) l.runs.high in
         let departs : rides.moment days (l.day - first) c.connection.departs ≡ leg.departs =
         moment-is days table first days-are (l.day - first) c.connection.departs four low high ∙ (ap (λ n. moment table n c.connection.departs) day ∙ (ap (λ n. moment table l.day n) leaves ∙ sym leaves-is)) in
         let arrives : rides.moment days (l.day - first) d.connection.arrives ≡ leg.arrives =
@@ -188,7 +190,7 @@ module _ (net : Connections) (table : Timetable) (days : Days) (first : ℕ) (we
         bases = base-low days table first days-are;
         services = λ j h.
             let count = ap length net-is.is.services_are ∙ net-is.services_are.length_is in
-            let of = within-read table.journeys j (omega arith) in
+            let of = read_at table.journeys j (omega arith) in
             let within = number-in j of.0 of.1 in
             omega (arith, days-are.running.length_is);
       }

@@ -1,9 +1,9 @@
 -- The rows of a table, as they are made and as a network takes them.
-use Rattle.std.proofs.Common.{◌≡◌, ℕ, ◌+◌, ◌*◌, ◌<◌, ◌≤◌, ◌^◌, ◌⊎◌, List, [], ◌∷◌, ◌++◌, Some, length, sym, ap, subst, refl, inl, inr, arith, slice_get, slice_index, ◌∙◌, zero, suc}
+use Rattle.std.proofs.Common.{◌≡◌, ℕ, ◌+◌, ◌<◌, ◌≤◌, ◌⊎◌, List, [], ◌∷◌, ◌++◌, Some, length, sym, ap, subst, refl, inl, inr, arith, slice_get, ◌∙◌, zero, suc}
 use Rattle.std.proofs.lemmas.Bool.{cases_lt}
 use Rattle.std.proofs.lemmas.List.{length_push}
 use Rattle.std.proofs.lemmas.Option.{none-some, same_Some, slice_get_within}
-use Rattle.ojp_timetable.specs.Tables.{Timetable, Journey, Place}
+use Rattle.ojp_timetable.specs.Tables.{Timetable, Journey}
 use Rattle.ojp_timetable.specs.declared.calls.Call.{Call}
 use Rattle.ojp_timetable.specs.Runs.{IsWell}
 use Rattle.ojp_sweep.specs.declared.connections.Connection.{Connection}
@@ -11,9 +11,11 @@ use Rattle.ojp_sweep.specs.Rides.{IsWellAt}
 use Rattle.ojp_sweep.specs.Rows.{AreRows}
 use Rattle.ojp_scan.specs.declared.hops.Hop.{Hop}
 use Rattle.ojp_scan.specs.Hops.{IsHop, StandsBefore}
-use Rattle.ojp_scan.specs.Networks.{IsConnection, IsPlacedAt, HasRow, AreRowsUpTo, AreRowsOf, place_number}
+use Rattle.ojp_scan.specs.Networks.{IsConnection, IsPlacedAt, AreRowsUpTo, AreRowsOf, place_number}
 use Rattle.ojp_scan.specs.Views.{AreCallsOf}
-use Rattle.ojp_scan.proofs.TableFacts.{IsHopOf, hop-of-calls, one-call, one-read, within-read, Among-slice_get, calls-few, calls-forward, departs-forward, departs-offset, arrives-offset}
+use Rattle.ojp_values.proofs.EachFacts.{among_at, read_once}
+use Rattle.ojp_timetable.proofs.RideFacts.{ride_forward}
+use Rattle.ojp_scan.proofs.TableFacts.{IsHopOf, hop-of-calls, one-call, departs-forward, arrives-offset}
 use Rattle.ojp_scan.proofs.PlaceFacts.{number-within}
 
 -- what is read of a list stays where one more element is pushed
@@ -106,19 +108,19 @@ module _ (rows : List Connection) (table : Timetable) (j p : ℕ) (are : AreRows
             | inl before ↦ inl before
             | inr from ↦
                 let e : k ≡ j = omega arith in
-                let same_one = one-read table.journeys k j other of e other_at at in
+                let same_one = read_once table.journeys k j other of e other_at at in
                 let n = ap (λ (x : Journey). length x.calls) same_one in
                 inr (e, omega arith)
           ]
 
 -- the calls of a hop
 pub hop-calls : (table : Timetable) → IsWell table → (hop : Hop) (h : IsHop table hop) → IsHopOf h.of.calls hop.position
-hop-calls table well hop h = hop-of-calls h.of.calls hop.position (well.shape h.of (Among-slice_get table.journeys hop.journey h.of h.at)) h.within
+hop-calls table well hop h = hop-of-calls h.of.calls hop.position (well.shape h.of (among_at table.journeys hop.journey h.of h.at)) h.within
 
 -- the calls of a hop among those that were read
 pub hop-read : (table : Timetable) → IsWell table → (hop : Hop) → IsHop table hop → (calls : List Call) → AreCallsOf table hop.journey calls → IsHopOf calls hop.position
 hop-read table well hop h calls are =
-    let one = one-read table.journeys hop.journey hop.journey are.journey h.of refl are.at h.at in
+    let one = read_once table.journeys hop.journey hop.journey are.journey h.of refl are.at h.at in
     subst (λ (cs : List Call). IsHopOf cs hop.position) (sym (are.are ∙ ap (λ (j : Journey). j.calls) one)) (hop-calls table well hop h)
 
 -- a hop between the places of its calls is a connection
@@ -147,9 +149,9 @@ module _ (table : Timetable) (well : IsWell table) where
   -- a hop is that of its journey and position
   pub one-hop : (c d : Connection) → IsConnection table c → IsConnection table d → c.journey ≡ d.journey → c.position ≡ d.position → c.departs ≡ d.departs
   one-hop c d x y ej ep =
-      let of = one-read table.journeys c.journey d.journey x.of y.of ej x.at y.at in
+      let of = read_once table.journeys c.journey d.journey x.of y.of ej x.at y.at in
       let there : slice_get x.of.calls d.position ≡ Some y.board = subst (λ (j : Journey). slice_get j.calls d.position ≡ Some y.board) (sym of) y.board_at in
-      let board = one-read x.of.calls c.position d.position x.board y.board ep x.board_at there in
+      let board = read_once x.of.calls c.position d.position x.board y.board ep x.board_at there in
       same_Some c.departs d.departs (sym x.departs ∙ (ap (λ (k : Call). k.departs) board ∙ y.departs))
 
   -- it goes forward, and is in range
@@ -159,15 +161,15 @@ module _ (table : Timetable) (well : IsWell table) where
         from = number-within table x.board.stop c.from x.from;
         to = number-within table x.alight.stop c.to x.to;
         journey = slice_get_within table.journeys c.journey x.of x.at;
-        forward = calls-forward 0 x.of.calls c.position (c.position + 1) x.board x.alight c.departs c.arrives (well.times x.of (Among-slice_get table.journeys c.journey x.of x.at)) (omega arith) x.board_at x.alight_at x.departs x.arrives;
+        forward = ride_forward 0 x.of.calls c.position (c.position + 1) x.board x.alight c.departs c.arrives (well.times x.of (among_at table.journeys c.journey x.of x.at)) (omega arith) x.board_at x.alight_at x.departs x.arrives;
         offset = let o = arrives-offset table well c.journey (c.position + 1) x.of x.alight c.arrives x.at x.alight_at x.arrives in omega arith;
       }
 
   pub hop-later : (c d : Connection) → IsConnection table c → IsConnection table d → c.journey ≡ d.journey → c.position ≤ d.position → c.departs ≤ d.departs
   hop-later c d x y ej le =
-      let of = one-read table.journeys c.journey d.journey x.of y.of ej x.at y.at in
+      let of = read_once table.journeys c.journey d.journey x.of y.of ej x.at y.at in
       let there : slice_get x.of.calls d.position ≡ Some y.board = subst (λ (j : Journey). slice_get j.calls d.position ≡ Some y.board) (sym of) y.board_at in
-      departs-forward 0 x.of.calls c.position d.position x.board y.board c.departs d.departs (well.times x.of (Among-slice_get table.journeys c.journey x.of x.at)) le x.board_at there x.departs y.departs
+      departs-forward 0 x.of.calls c.position d.position x.board y.board c.departs d.departs (well.times x.of (among_at table.journeys c.journey x.of x.at)) le x.board_at there x.departs y.departs
 
   -- the rows are those of a network
   pub rows-are : (rows : List Connection) → AreRowsOf rows table → AreRows rows (length table.places) (length table.journeys)
@@ -180,7 +182,7 @@ module _ (table : Timetable) (well : IsWell table) where
             let position : c.position ≤ d.position =
             elim (cases_lt i j) as (λ _. c.position ≤ d.position) [
               | inl lt ↦ elim (are.rising i j c d lt a b) [ inl other ↦ absurd (omega arith) | inr h ↦ omega (arith, h.1) ]
-              | inr ge ↦ let e : i ≡ j = omega arith in let same_one = ap (λ (k : Connection). k.position) (one-read rows i j c d e a b) in omega arith
+              | inr ge ↦ let e : i ≡ j = omega arith in let same_one = ap (λ (k : Connection). k.position) (read_once rows i j c d e a b) in omega arith
             ] in
             (position, hop-later c d x y journey position);
         by_position = λ i j c d a b journey le.

@@ -1,13 +1,14 @@
 -- What a scan that was started tells of journeys.
-use Rattle.std.proofs.Common.{◌≡◌, ◌≢◌, ℕ, ◌+◌, ◌<◌, ◌≤◌, List, [], ◌∷◌, Option, Some, None, is_some, length, sym, ap, subst, refl, inl, inr, arith, slice_get, ◌∙◌}
+use Rattle.std.proofs.Common.{◌≡◌, ◌≢◌, ℕ, ◌+◌, ◌<◌, ◌≤◌, List, ◌∷◌, Option, Some, None, is_some, sym, ap, subst, refl, inl, inr, arith, slice_get, ◌∙◌}
 use Rattle.std.specs.Prelude.{MatchOption, IsSome}
 use Rattle.std.proofs.lemmas.Option.{none-some, same_Some}
 use Rattle.ojp_values.specs.Lists.{Earliest}
 use Rattle.ojp_values.specs.Texts.{Text}
+use Rattle.ojp_values.specs.declared.moments.TheConstants.{FIRST_DAY, LAST_DAY}
 use Rattle.ojp_values.specs.declared.trips.Leg.{Leg}
-use Rattle.ojp_timetable.specs.Tables.{Timetable, change_of}
-use Rattle.ojp_timetable.specs.Runs.{RunsOn, last_moment, day_long}
-use Rattle.ojp_timetable.specs.Journeys.{Standing, alighted, AllFollow, Follows, Leads, Regional, ArrivesWithin}
+use Rattle.ojp_timetable.specs.Tables.{Timetable}
+use Rattle.ojp_timetable.specs.Runs.{RunsOn, last_moment}
+use Rattle.ojp_timetable.specs.Journeys.{alighted, Leads, Regional, ArrivesWithin}
 use Rattle.ojp_timetable.specs.Answers.{HasNoTrip}
 use Rattle.ojp_timetable.proofs.RideFacts.{leg_forward, leg_region}
 use Rattle.ojp_sweep.specs.declared.connections.Connection.{Connection}
@@ -18,7 +19,7 @@ use Rattle.ojp_scan.specs.declared.scans.Scan.{Scan}
 use Rattle.ojp_scan.specs.Networks.{place_number}
 use Rattle.ojp_scan.specs.Scans.{IsScanOf, IsReached}
 use Rattle.ojp_scan.specs.Walks.{AreEnds, leg_between, IsFirstAt, IsMet, Begins, IsLastLeg, Onward, IsWalking}
-use Rattle.ojp_scan.proofs.TableFacts.{one-read}
+use Rattle.ojp_values.proofs.EachFacts.{read_once}
 use Rattle.ojp_scan.proofs.PlaceFacts.{one-stop, change-low}
 use Rattle.ojp_scan.proofs.RideFacts.{leg-between-is, ride-ends, ride-runs, ends-match, transfer-to}
 use Rattle.ojp_scan.proofs.ChainFacts.{IsArrival, origin-at, origin-is, leads-legs, leads-bound, journey-arrives}
@@ -121,15 +122,15 @@ module _ (scan : Scan) (table : Timetable) (o : Text) (t : ℕ) (found : IsScanO
   day-is : (day : ℕ) → day ≡ scan.first + hop.day → day ≡ scan.first + last.ride.day
   day-is day e = e ∙ ap (λ (h : LastHop). scan.first + h.day) last.hop_is
 
-  pub day-in : (day : ℕ) → day ≡ scan.first + hop.day → (2 ≤ day) × (day ≤ 84002)
+  pub day-in : (day : ℕ) → day ≡ scan.first + hop.day → (FIRST_DAY ≤ day) × (day ≤ LAST_DAY)
   day-in day e = let runs = last-runs last-ends in let low = runs.low in let high = runs.high in let is = day-is day e in (omega arith, omega arith)
 
   module _ (first to : Connection) (first-at : slice_get scan.sweep.net.sorted.items hop.board ≡ Some first) (to-at : slice_get scan.sweep.net.sorted.items hop.alight ≡ Some to) where
     first-is : first ≡ last.is_ride.first
-    first-is = one-read scan.sweep.net.sorted.items hop.board last.ride.board first last.is_ride.first (ap (λ (h : LastHop). h.board) last.hop_is) first-at last.is_ride.first_at
+    first-is = read_once scan.sweep.net.sorted.items hop.board last.ride.board first last.is_ride.first (ap (λ (h : LastHop). h.board) last.hop_is) first-at last.is_ride.first_at
 
     to-is : to ≡ last.is_ride.last
-    to-is = one-read scan.sweep.net.sorted.items hop.alight last.ride.alight to last.is_ride.last (ap (λ (h : LastHop). h.alight) last.hop_is) to-at last.is_ride.last_at
+    to-is = read_once scan.sweep.net.sorted.items hop.alight last.ride.alight to last.is_ride.last (ap (λ (h : LastHop). h.alight) last.hop_is) to-at last.is_ride.last_at
 
     pub read-ends : AreEnds table first to
     read-ends = subst (λ k. AreEnds table k to) (sym first-is) (subst (λ k. AreEnds table last.is_ride.first k) (sym to-is) last-ends)

@@ -1,5 +1,6 @@
 -- The operating days around a moment.
 use Rattle.std.specs.Prelude.{◌≡◌, ℕ, ◌+◌, ◌*◌, ◌/◌, ◌%◌, ◌<◌, ◌≤◌, ◌^◌, ◌↔◌, true, false, List, Bool, length, slice_index, slice_index_or}
+use Rattle.ojp_values.specs.declared.moments.TheConstants.{FIRST_DAY, LAST_DAY}
 use Rattle.ojp_timetable.specs.Tables.{Timetable}
 use Rattle.ojp_timetable.specs.Runs.{RunsOn, moment}
 use Rattle.ojp_sweep.specs.declared.connections.Days.{Days}
@@ -12,7 +13,7 @@ CoverWindow first start = (day : ℕ) → start ≤ 86400 * day + 187140 → 864
 -- the base of the day is the moment of its offset 0, if it is an operating day
 pub record IsBase (table : Timetable) (day base : ℕ) : Type 0 where
   pub low : base ≤ 2 ^ 40
-  pub is : 2 ≤ day → day ≤ 84002 → base ≡ moment table day 0
+  pub is : FIRST_DAY ≤ day → day ≤ LAST_DAY → base ≡ moment table day 0
 
 -- the first of the four bases are those of the days
 pub record AreBases (bases : List ℕ) (table : Timetable) (first count : ℕ) : Type 0 where

@@ -1,6 +1,7 @@
 -- What a scan keeps.
 use Rattle.std.specs.Prelude.{◌≡◌, ℕ, ◌≤◌, List, map, length, unwrap_or}
 use Rattle.ojp_values.specs.Texts.{Text}
+use Rattle.ojp_values.specs.declared.moments.TheConstants.{LAST_SECOND}
 use Rattle.ojp_timetable.specs.Tables.{Timetable}
 use Rattle.ojp_timetable.specs.Runs.{IsWell}
 use Rattle.ojp_timetable.specs.Journeys.{ArrivesWithin}
@@ -33,7 +34,7 @@ pub record IsScanOf (scan : Scan) (table : Timetable) (origin : Text) (start : �
   -- a number past those of the places where the origin is no place
   pub origin_is : scan.asked.origin ≡ unwrap_or (place_number table origin) (length table.places)
   pub start_is : scan.asked.start ≡ start
-  pub in_range : start ≤ 7258118399
+  pub in_range : start ≤ LAST_SECOND
   pub window : CoverWindow scan.first start
   pub days : AreDaysFrom scan.days table scan.first
   pub found : IsSweepOf scan.sweep scan.days scan.asked

@@ -1,6 +1,7 @@
 //! The operating days around a moment.
 
 ghost use Rattle.std.specs.Prelude.{◌≡◌, ◌↔◌, ◌*◌, ◌<◌, ◌≤◌, ◌^◌, length, IsTrue, IfOk};
+ghost use Rattle.ojp_values.specs.declared.moments.TheConstants.{FIRST_DAY, LAST_DAY};
 ghost use Rattle.ojp_timetable.specs.Runs.{RunsOn, IsWell};
 ghost use Rattle.ojp_scan.specs.Days.{CoverWindow, IsBase, AreBases, AreMarks, HasRoomFor, AreDaysFrom};
 
@@ -25,8 +26,8 @@ pub fn first_day(start: u64) -> u64
 
 /// The operating day of that number.
 pub fn day_of(number: u64) -> Day
-    requires low { 2 ≤ number }
-    requires high { number ≤ 84002 }
+    requires low { FIRST_DAY ≤ number }
+    requires high { number ≤ LAST_DAY }
     ensures { result ≡ number }
 {
     match Day::new(number as u32) {

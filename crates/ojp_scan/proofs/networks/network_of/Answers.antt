@@ -1,6 +1,6 @@
-use Rattle.std.proofs.Common.{◌≡◌, ◌<◌, ◌≤◌, length, sym, subst, slice_index, arith}
+use Rattle.std.proofs.Common.{◌<◌, ◌≤◌, length, sym, subst, arith}
 use Rattle.ojp_sweep.specs.Rows.{AreRows}
-use Rattle.ojp_scan.proofs.TableFacts.{Among-slice_get, within-read}
+use Rattle.ojp_values.proofs.EachFacts.{among_at, read_at}
 use Rattle.ojp_scan.proofs.RowFacts.{rows-are}
 use Rattle.ojp_scan.proofs.networks.network_of.Goals as goal
 
@@ -19,6 +19,6 @@ new-requires-clause-changes c k h =
     let table = c.args.table.now in
     let changes = c.in_ok-changes.ensures in
     let within : k < length table.places = omega (arith, changes.length_is) in
-    let place = within-read table.places k within in
-    let low = (c.requires.changes place.0 (Among-slice_get table.places k place.0 place.1)).0 in
+    let place = read_at table.places k within in
+    let low = (c.requires.changes place.0 (among_at table.places k place.0 place.1)).0 in
     subst (λ n. 1 ≤ n) (sym (changes.is k place.0 within place.1)) low

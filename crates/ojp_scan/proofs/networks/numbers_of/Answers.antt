@@ -1,4 +1,4 @@
-use Rattle.ojp_scan.proofs.TableFacts.{Among-slice_get}
+use Rattle.ojp_values.proofs.EachFacts.{among_at}
 use Rattle.ojp_scan.proofs.PlaceFacts.{place-seen, numbers-next}
 use Rattle.ojp_scan.proofs.ResultFacts.{ok-then}
 use Rattle.std.proofs.Common.{◌<◌, length, arith}
@@ -9,7 +9,7 @@ place_of-number-requires-clause-known c =
     let table = c.args.table.now in
     let within : c.places.index < length table.places = omega arith in
     let seen = place-seen table c.places.index c.place-stop.result within c.place-stop.ensures in
-    record { place = seen.place; is_place = Among-slice_get table.places c.places.index seen.place seen.at; at = seen.stop_is }
+    record { place = seen.place; is_place = among_at table.places c.places.index seen.place seen.at; at = seen.stop_is }
 
 pub places-preserved : goal.places-preserved
 places-preserved c =

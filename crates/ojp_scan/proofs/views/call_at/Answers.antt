@@ -1,12 +1,12 @@
 use Rattle.std.proofs.Common.{◌≡◌, ◌<◌, List, Some, length, sym, subst, slice_get}
 use Rattle.ojp_timetable.specs.declared.calls.Call.{Call}
-use Rattle.ojp_scan.proofs.TableFacts.{calls-are}
+use Rattle.ojp_timetable.proofs.ReadFacts.{calls_are}
 use Rattle.ojp_scan.proofs.views.call_at.Goals as goal
 
 pub call-requires : goal.call-requires
 call-requires c =
     let r = c.requires in
-    subst (λ (cs : List Call). c.args.position < length cs) (sym (calls-are c.args.table.now.journeys c.args.i r.journey r.at)) r.within
+    subst (λ (cs : List Call). c.args.position < length cs) (sym (calls_are c.args.table.now.journeys c.args.i r.journey r.at)) r.within
 
 pub returns : goal.returns
 returns c =
@@ -14,5 +14,5 @@ returns c =
     record {
       journey = r.journey;
       at = r.at;
-      call_at = subst (λ (cs : List Call). slice_get cs c.args.position ≡ Some c.call.result) (calls-are c.args.table.now.journeys c.args.i r.journey r.at) c.call.ensures;
+      call_at = subst (λ (cs : List Call). slice_get cs c.args.position ≡ Some c.call.result) (calls_are c.args.table.now.journeys c.args.i r.journey r.at) c.call.ensures;
     }
