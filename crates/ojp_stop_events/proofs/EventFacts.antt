@@ -4,11 +4,13 @@ use Rattle.std.specs.Prelude.{Option, Some, None, OnOk, Result, Ok, Err, option_
 use Rattle.std.proofs.lemmas.Bool.{cases_Bool, cases_lt}
 use Rattle.std.proofs.lemmas.Bool.Decides.{nat_tests}
 use Rattle.std.proofs.lemmas.Option.{none-some, same_Some, slice_get_within}
-use Rattle.ojp_values.specs.Lists.{Among, Each}
+use Rattle.ojp_values.proofs.EachFacts.{each_of}
+use Rattle.ojp_values.specs.Lists.{Among}
 use Rattle.ojp_values.specs.Texts.{same, text_lt}
 use Rattle.ojp_values.specs.declared.asks.EventAsk.{EventAsk}
 use Rattle.ojp_values.specs.declared.kinds.EventKind.{EventKind}
 use Rattle.ojp_values.specs.declared.kinds.EventKind.TheVariants.{Departure, Arrival}
+use Rattle.ojp_values.specs.declared.moments.TheConstants.{FIRST_DAY, LAST_DAY}
 use Rattle.ojp_values.specs.declared.trips.Event.{Event}
 use Rattle.ojp_timetable.specs.Tables.{Timetable, Journey}
 use Rattle.ojp_timetable.specs.declared.calls.Call.{Call}
@@ -99,10 +101,6 @@ pass_on table ask j p d k q e events first more none = record {
   rising = first.rising;
   cut = first.cut;
 }
-
-each_of : {X : Type 0} (P : X → Type 0) (xs : List X) → ((x : X) → Among x xs → P x) → Each P xs
-each_of P [] h = tt
-each_of P (x ∷ xs) h = (h x (inl refl), each_of P xs (λ y a. h y (inr a)))
 
 next_day : (at : RunCall) (j p d : ℕ) → IsBefore at j p (d + 1) → IsBefore at j p d ⊎ ((at.journey ≡ j) × (at.position ≡ p) × (at.day ≡ d))
 next_day at j p d h = elim h [
@@ -327,7 +325,7 @@ not_late table ask j p end well late day past event is =
     omega (arith, low, to, late, past)
 
 -- no event is on a day that is no operating day
-pub no_day : (table : Timetable) (ask : EventAsk) (j p day : ℕ) → ((2 ≤ day) × (day ≤ 84002) → ⊥) → HasNoEvent table ask j p day
+pub no_day : (table : Timetable) (ask : EventAsk) (j p day : ℕ) → ((FIRST_DAY ≤ day) × (day ≤ LAST_DAY) → ⊥) → HasNoEvent table ask j p day
 no_day table ask j p day none event is = none (is.runs.low, is.runs.high)
 
 -- ---- the call that is read
