@@ -1,10 +1,10 @@
 -- How labels keep the least start, as a record grows.
-use Rattle.std.proofs.Common.{◌≡◌, ◌≢◌, ℕ, zero, suc, ◌+◌, ◌<◌, ◌≤◌, Bool, true, false, not, cond, ◌&&◌, ◌||◌, ◌⊎◌, List, [], ◌∷◌, ◌++◌, map, Option, Some, None, length, get_or, set, nat_lt, min, refl, sym, ◌∙◌, ap, subst, inl, inr, arith, slice_get, eqb}
-use Rattle.std.proofs.lemmas.Bool.{true≢false, and_parts, and_from, cases_Bool, ltb-true, lt-ltb, not-true}
+use Rattle.std.proofs.Common.{◌≡◌, ◌≢◌, ℕ, ◌+◌, ◌<◌, ◌≤◌, Bool, true, false, not, cond, ◌&&◌, ◌||◌, List, [], ◌∷◌, ◌++◌, map, Option, Some, None, length, set, nat_lt, min, refl, sym, ◌∙◌, ap, subst, inl, inr, arith, slice_get, eqb}
+use Rattle.std.proofs.lemmas.Bool.{true≢false, and_parts, cases_Bool, ltb-true, lt-ltb, not-true}
 use Rattle.std.proofs.lemmas.List.{length-set, get_or-set_same, get_or-set_other, flat_map_more, map-append, append-nil}
-use Rattle.std.proofs.lemmas.Option.{none-some, same_Some, slice_get_within, slice_get-get_or, get_or_from_slice_get}
-use Rattle.std.specs.List.{filter, flat_map, list_any}
-use Rattle.ojp_values.specs.Lists.{Among, least, lesser}
+use Rattle.std.proofs.lemmas.Option.{same_Some, slice_get_within, slice_get-get_or, get_or_from_slice_get}
+use Rattle.std.specs.List.{filter}
+use Rattle.ojp_values.specs.Lists.{Among, least}
 use Rattle.ojp_values.specs.Texts.{Text, same}
 use Rattle.ojp_exchange.specs.Book.{Spot, Link, Book, HasChange, has_region}
 use Rattle.ojp_exchange.specs.Places.{IsSpotAt, IsPairAt, IsEdge, edge_to, AreEdges}
@@ -20,7 +20,7 @@ use Rattle.ojp_values.proofs.ListFacts.{Member, LeastBelow, among_append_left, a
 use Rattle.ojp_records.proofs.RecordFacts.{same_query_is, is_same_query, is_told_is, failed_is}
 use Rattle.ojp_exchange.proofs.BookFacts.{region_is}
 use Rattle.ojp_exchange.proofs.SpotFacts.{one_place, known_at}
-use Rattle.ojp_records.proofs.BoardFacts.{least_append, filter_append, arrivals_append, is_told_append, is_failed_append}
+use Rattle.ojp_records.proofs.BoardFacts.{least_append, filter_append, arrivals_append, is_told_append, is_failed_append, lesser_assoc}
 use Rattle.ojp_records.proofs.StartFacts.{after_is_start}
 use Rattle.ojp_values.specs.declared.asks.TripAsk.{TripAsk}
 use Rattle.ojp_exchange.specs.declared.spots.Edge.{Edge}
@@ -31,18 +31,13 @@ use Rattle.ojp_labels.specs.declared.labels.Label.{Label}
 
 -- the least of two lists in a row
 
-lesser_step : (x : ℕ) (o p : Option ℕ) → lesser x (lesser_of o p) ≡ lesser (lesser x o) p
-lesser_step x None p = refl
-lesser_step x (Some y) None = refl
-lesser_step x (Some y) (Some z) = omega arith
-
 pub lesser_none : (o : Option ℕ) → lesser_of o None ≡ o
 lesser_none None = refl
 lesser_none (Some x) = refl
 
-pub lesser_assoc : (o p q : Option ℕ) → lesser_of (lesser_of o p) q ≡ lesser_of o (lesser_of p q)
-lesser_assoc None p q = refl
-lesser_assoc (Some x) p q = ap Some (sym (lesser_step x p q))
+pub lesser_of_assoc : (o p q : Option ℕ) → lesser_of (lesser_of o p) q ≡ lesser_of o (lesser_of p q)
+lesser_of_assoc None p q = refl
+lesser_of_assoc (Some x) p q = ap Some (sym (lesser_assoc x p q))
 
 -- lists with the same numbers have the same least one
 pub least_same : (xs ys : List ℕ) → ((x : ℕ) → Among x xs → Among x ys) → ((x : ℕ) → Among x ys → Among x xs) → least xs ≡ least ys
@@ -228,7 +223,7 @@ pub lowered_all_start : (label : Label) (ts : List ℕ) → (lowered_all label t
 lowered_all_start label [] = sym (lesser_none label.start)
 lowered_all_start label (t ∷ ts) =
     lowered_all_start (lowered label t) ts
-    ∙ (ap (λ (o : Option ℕ). lesser_of o (least ts)) (lowered_start label t) ∙ lesser_assoc label.start (Some t) (least ts))
+    ∙ (ap (λ (o : Option ℕ). lesser_of o (least ts)) (lowered_start label t) ∙ lesser_of_assoc label.start (Some t) (least ts))
 
 lowered_target : (label : Label) (t : ℕ) → (lowered label t).has_target ≡ label.has_target
 lowered_target label t = go (is_before t label.start)

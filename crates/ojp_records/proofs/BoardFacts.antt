@@ -105,7 +105,7 @@ is_failed_append told more query = list_any-append (λ (entry : Entry). same_que
 abbrev heard_by : Book → TripAsk → Entry → List Arrival
 heard_by book ask entry = arrivals_heard book ask entry.query entry.reply
 
-lesser_assoc : (x : ℕ) (y z : Option ℕ) → lesser x (lesser_of y z) ≡ lesser (lesser x y) z
+pub lesser_assoc : (x : ℕ) (y z : Option ℕ) → lesser x (lesser_of y z) ≡ lesser (lesser x y) z
 lesser_assoc x None z = refl
 lesser_assoc x (Some y) None = refl
 lesser_assoc x (Some y) (Some z) = omega arith

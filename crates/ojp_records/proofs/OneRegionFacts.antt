@@ -1,11 +1,12 @@
 -- The premises of the law on ends are met, with a trip.
-use Rattle.std.proofs.Common.{◌≡◌, ◌≢◌, ℕ, Bool, true, suc, zero, ◌+◌, ◌*◌, ◌-◌, ◌<◌, ◌≤◌, List, [], ◌∷◌, Some, None, map, length, refl, sym, ◌∙◌, ap, subst, inl, inr, arith, lit≤, lit<, slice_index, slice_get}
+use Rattle.std.proofs.Common.{◌≡◌, ◌≢◌, ℕ, true, suc, zero, ◌+◌, ◌*◌, ◌-◌, ◌<◌, ◌≤◌, List, [], ◌∷◌, Some, None, map, length, refl, sym, ◌∙◌, ap, subst, inl, inr, arith, lit≤, lit<, slice_index, slice_get}
 use Rattle.std.specs.List.{count_by, sum_by}
-use Rattle.std.proofs.lemmas.Bool.{cases_Bool}
 use Rattle.std.proofs.lemmas.List.Sums.{sum_by-cons}
+use Rattle.ojp_values.specs.Dates.{operating_days}
 use Rattle.ojp_values.specs.Limits.{IsChange}
 use Rattle.ojp_values.specs.Lists.{Among}
 use Rattle.ojp_values.specs.Texts.{Text, same, text_lt, home, is_exchange}
+use Rattle.ojp_values.specs.declared.moments.TheConstants.{FIRST_DAY}
 use Rattle.ojp_values.specs.declared.trips.Leg.{Leg}
 use Rattle.ojp_values.specs.declared.trips.Point.{Point}
 use Rattle.ojp_values.specs.declared.replies.TripResult.TheVariants as results
@@ -18,7 +19,7 @@ use Rattle.ojp_timetable.specs.Answers.{IsEarliestTrip}
 use Rattle.ojp_timetable.proofs.RideFacts.{follow_forward}
 use Rattle.ojp_exchange.specs.Book.{Spot, Link, HasCode, HasSpot, HasLink, IsBookOfTables, points_of, has_region, serves, is_declared, leads_out}
 use Rattle.ojp_exchange.specs.Kept.{IsWellBook}
-use Rattle.ojp_exchange.proofs.SortFacts.{count_no, count_yes}
+use Rattle.ojp_exchange.proofs.SortFacts.{count_within}
 use Rattle.ojp_records.specs.Records.{is_told, is_failed}
 use Rattle.ojp_records.specs.Places.{place_state, checks_in}
 use Rattle.ojp_records.specs.Pairs.{pairs_from, ends_towards}
@@ -51,11 +52,11 @@ p_not_q : point_p ≢ point_q
 p_not_q e = omega (arith, ap (λ (l : List ℕ). slice_index l 2) e)
 
 record NoonsAre (noons : List ℕ) : Type 0 where
-  days : length noons ≡ 84001
-  at : (i : ℕ) → i < 84001 → slice_index noons i ≡ 86400 * (2 + i) + 43200
+  days : length noons ≡ operating_days
+  at : (i : ℕ) → i < operating_days → slice_index noons i ≡ 86400 * (FIRST_DAY + i) + 43200
 
-the_noons : NoonsAre (noons_from 2 84001)
-the_noons = record { days = noons_length 2 84001; at = λ i h. noons_at 2 84001 i h }
+the_noons : NoonsAre (noons_from FIRST_DAY operating_days)
+the_noons = record { days = noons_length FIRST_DAY operating_days; at = λ i h. noons_at FIRST_DAY operating_days i h }
 
 points_well : AreWellPoints code_aa (point_at point_p ∷ point_at point_q ∷ [])
 unfolding text_lt
@@ -94,8 +95,8 @@ is_well noons are services times calls =
       placed = placed;
       few = rows_few;
       days = are.days;
-      noons_low = λ day low high. let is : slice_index noons (day - 2) ≡ 86400 * (2 + (day - 2)) + 43200 = are.at (day - 2) (omega (arith, low, high)) in omega (arith, low);
-      noons_high = λ day low high. let is : slice_index noons (day - 2) ≡ 86400 * (2 + (day - 2)) + 43200 = are.at (day - 2) (omega (arith, low, high)) in omega (arith, low);
+      noons_low = λ day low high. let is : slice_index noons (day - FIRST_DAY) ≡ 86400 * (FIRST_DAY + (day - FIRST_DAY)) + 43200 = are.at (day - FIRST_DAY) (omega (arith, low, high)) in omega (arith, low);
+      noons_high = λ day low high. let is : slice_index noons (day - FIRST_DAY) ≡ 86400 * (FIRST_DAY + (day - FIRST_DAY)) + 43200 = are.at (day - FIRST_DAY) (omega (arith, low, high)) in omega (arith, low);
     }
   where
     dates : (service : Service) → Among service (daily ∷ []) → AreDays service.first service.last service.marks
@@ -189,14 +190,6 @@ book_of noons =
         go : Among it.list (points_of (one_table noons) ∷ []) → ⊥
         go (inl e) = subst (Among it.neighbour) (no_neighbour it.point (subst (λ l. Among it.point l.points) e it.listed)) it.declared
         go (inr none) = none
-
-count_within : {X : Type 0} (p : X → Bool) (xs : List X) → count_by p xs ≤ length xs
-count_within p [] = omega arith
-count_within p (x ∷ xs) =
-    elim (cases_Bool (p x)) [
-      | inl t ↦ omega (arith, count_yes p x xs t, count_within p xs)
-      | inr t ↦ omega (arith, count_no p x xs t, count_within p xs)
-    ]
 
 few_spots : (region : Text) → count_by (λ (spot : Spot). same region spot.region) one_book.spots ≤ 255
 few_spots region =
@@ -392,5 +385,5 @@ with_a_trip noons are = (
 
 pub premises_are_met : PremisesAreMet
 premises_are_met =
-    let both : PremisesHold (one_table (noons_from 2 84001) ∷ []) one_book across with_trip × (fault one_book across with_trip ≡ None) = with_a_trip (noons_from 2 84001) the_noons in
-    (noons_from 2 84001, both.0, both.1)
+    let both : PremisesHold (one_table (noons_from FIRST_DAY operating_days) ∷ []) one_book across with_trip × (fault one_book across with_trip ≡ None) = with_a_trip (noons_from FIRST_DAY operating_days) the_noons in
+    (noons_from FIRST_DAY operating_days, both.0, both.1)

@@ -2,6 +2,7 @@
 use Rattle.std.proofs.Common.{◌≡◌, ◌≢◌, ℕ, Bool, true, false, cond, ◌||◌, ◌⊎◌, List, [], ◌∷◌, map, Option, Some, None, refl, sym, ◌∙◌, ap, subst, inl, inr}
 use Rattle.std.proofs.lemmas.Bool.{true≢false, and_parts, and_from, or_cases, or_left, or_right}
 use Rattle.std.specs.List.{filter_map, cons_option}
+use Rattle.ojp_values.proofs.EachFacts.{each_of}
 use Rattle.ojp_values.specs.Lists.{Among, Each, IsRising}
 use Rattle.ojp_values.specs.Texts.{Text, same, text_lt, is_exchange, code_part, home}
 use Rattle.ojp_values.specs.declared.asks.TripAsk.{TripAsk}
@@ -147,14 +148,10 @@ pub no_home : (stop : Text) → is_exchange stop ≡ true → home stop ≡ None
 unfolding home
 no_home stop e = ap (λ (b : Bool). cond b None (Some (code_part stop))) e
 
-each_of : (spots : List Spot) (P : Spot → Type 0) → ((spot : Spot) → Among spot spots → P spot) → Each P spots
-each_of [] P all = tt
-each_of (spot ∷ spots) P all = (all spot (inl refl), each_of spots P (λ it h. all it (inr h)))
-
 pub books_are_in_order : BooksAreInOrder
 books_are_in_order tables book whole = (
   whole.book_of.spots_rise,
-  each_of book.spots (λ (spot : Spot). home spot.stop ≡ None) (λ spot h.
+  each_of (λ (spot : Spot). home spot.stop ≡ None) book.spots (λ spot h.
       let it : SpotTable tables spot = spot_table tables spot ((whole.book_of.spots spot).0 h) in
       let point : IsPointOf it.table.region it.point = each_at (IsPointOf it.table.region) it.point it.table.points (whole.tables_well.well it.table it.of_tables).points.each it.listed in
       subst (λ (s : Text). home s ≡ None) it.at (no_home it.point.stop point.exchange)),

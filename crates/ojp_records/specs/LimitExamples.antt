@@ -3,6 +3,7 @@ use Rattle.std.specs.Prelude.{◌≡◌, ℕ, ◌+◌, ◌-◌, List, [], ◌∷
 use Rattle.ojp_values.specs.declared.asks.TripAsk.{TripAsk}
 use Rattle.ojp_values.specs.declared.asks.Ask.TheVariants as asks
 use Rattle.ojp_values.specs.declared.kinds.EventKind.TheVariants.{Departure}
+use Rattle.ojp_values.specs.declared.moments.TheConstants.{LAST_SECOND}
 use Rattle.ojp_values.specs.declared.replies.Fault.TheVariants.{StopUnknown, RegionFailed}
 use Rattle.ojp_values.specs.declared.replies.TripResult.TheVariants as results
 use Rattle.ojp_exchange.specs.Book.{Book}
@@ -43,7 +44,7 @@ point_reached ask moment =
 
 -- from AA:a, ten minutes before the last moment, to BB:z
 abbrev pub at_the_end : TripAsk
-at_the_end = record { origin = start_stop; start = 7258117799; target = codes "BB:z" }
+at_the_end = record { origin = start_stop; start = LAST_SECOND - 600; target = codes "BB:z" }
 
 -- BB reaches BB:z at the moment
 abbrev pub target_reached : ℕ → List Entry
@@ -55,8 +56,8 @@ target_reached moment =
 pub record DayIsExact : Type 0 where
   pub start_met : wanted (one_point 300) to_bb (point_reached to_bb (at 7 55 + 86100)) ≡ Reach code_bb point_p (at 7 55 + 86400) ∷ []
   pub start_over : wanted (one_point 301) to_bb (point_reached to_bb (at 7 55 + 86100)) ≡ []
-  pub last_met : wanted (one_point 300) at_the_end (point_reached at_the_end 7258118099) ≡ Reach code_bb point_p 7258118399 ∷ []
-  pub last_over : wanted (one_point 301) at_the_end (point_reached at_the_end 7258118099) ≡ []
+  pub last_met : wanted (one_point 300) at_the_end (point_reached at_the_end (LAST_SECOND - 300)) ≡ Reach code_bb point_p LAST_SECOND ∷ []
+  pub last_over : wanted (one_point 301) at_the_end (point_reached at_the_end (LAST_SECOND - 300)) ≡ []
   pub arrival_met : best (one_point 300) to_bb (target_reached (at 7 55 + 86400)) ≡ Some (at 7 55 + 86400)
   pub arrival_over : best (one_point 300) to_bb (target_reached (at 7 55 + 86401)) ≡ None
 
