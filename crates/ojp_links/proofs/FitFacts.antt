@@ -1,6 +1,8 @@
 -- What a region answers fits, where it is sure of the ask.
 use Rattle.std.proofs.Common.{◌≡◌, ℕ, zero, suc, ◌+◌, ◌<◌, ◌≤◌, inl, inr, Bool, true, false, cond, List, [], ◌∷◌, length, take, refl, sym, ap, subst, arith, length-take}
 use Rattle.std.specs.Prelude.{Option, Some, None, MatchBool, find, option_map}
+use Rattle.ojp_values.proofs.ListFacts.{each_at}
+use Rattle.ojp_values.proofs.EachFacts.{each_of, each_take}
 use Rattle.ojp_values.specs.Lists.{Among, Each, IsRising, Pairwise}
 use Rattle.ojp_values.specs.Texts.{Text, same}
 use Rattle.ojp_values.specs.declared.asks.TripAsk.{TripAsk}
@@ -39,19 +41,6 @@ module _ {X : Type 0} where
   found : (p : X → Bool) (xs : List X) (y : X) → find p xs ≡ Some y → Among y xs × (p y ≡ true)
   found p [] y e = absurd (cc)
   found p (x ∷ xs) y e = chosen p (p x) x y (find p xs) xs refl e (found p xs y)
-
-  each_of : (P : X → Type 0) (xs : List X) → ((x : X) → Among x xs → P x) → Each P xs
-  each_of P [] h = tt
-  each_of P (x ∷ xs) h = (h x (inl refl), each_of P xs (λ y a. h y (inr a)))
-
-  each_at : (P : X → Type 0) (x : X) (xs : List X) → Each P xs → Among x xs → P x
-  each_at P x [] h a = absurd a
-  each_at P x (y ∷ xs) h a = elim a [ inl e ↦ subst P (sym e) h.0 | inr t ↦ each_at P x xs h.1 t ]
-
-  each_take : (P : X → Type 0) (n : ℕ) (xs : List X) → Each P xs → Each P (take n xs)
-  each_take P zero xs h = tt
-  each_take P (suc n) [] h = tt
-  each_take P (suc n) (x ∷ xs) h = (h.0, each_take P n xs h.1)
 
   rising_take : (before : X → X → Bool) (n : ℕ) (xs : List X) → IsRising before xs → IsRising before (take n xs)
   rising_take before zero xs h = tt
