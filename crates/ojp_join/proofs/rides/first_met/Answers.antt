@@ -1,6 +1,7 @@
-use Rattle.std.proofs.Common.{◌≡◌, ◌<◌, ◌≤◌, ◌+◌, ℕ, List, Some, length, slice_get, refl, sym, subst, arith, inl, inr}
+use Rattle.std.proofs.Common.{◌≡◌, ℕ, List, Some, length, slice_get, refl, subst, arith, inl, inr}
 use Rattle.std.proofs.Math.Nat.{eq-or-lt_of_le}
 use Rattle.std.proofs.lemmas.Option.{slice_get_read, slice_get_within}
+use Rattle.ojp_values.proofs.EachFacts.{up_to}
 use Rattle.ojp_values.specs.Texts.{Text}
 use Rattle.ojp_values.specs.declared.replies.TripResult.{TripResult}
 use Rattle.ojp_values.specs.declared.replies.TripResult.TheVariants as results
@@ -13,9 +14,6 @@ use Rattle.ojp_join.proofs.rides.first_met.Goals as goal
 found_met : (book : Book) (need : Need) (region : Text) (found : List TripResult) (number : ℕ) (result : TripResult) → slice_get found number ≡ Some result → IsMet book need region result → IsFound book need region found number
 found_met book need region found number (results.Trip trip) at met = (trip, at, met)
 found_met book need region found number (results.NoTrip stop) at met = absurd met
-
-up_to : (k n : ℕ) → k < n + 1 → k ≤ n
-up_to k n h = omega (arith, h)
 
 pub returns-then-is_met : goal.returns-then-is_met
 returns-then-is_met c =

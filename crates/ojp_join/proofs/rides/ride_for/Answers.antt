@@ -1,10 +1,8 @@
-use Rattle.std.proofs.Common.{◌<◌, ◌≤◌, ◌+◌, ℕ, sym, subst, arith, inl, inr}
+use Rattle.std.proofs.Common.{sym, subst, arith, inl, inr}
 use Rattle.std.proofs.Math.Nat.{eq-or-lt_of_le}
+use Rattle.ojp_values.proofs.EachFacts.{up_to}
 use Rattle.ojp_join.specs.Rides.{HasNoRide}
 use Rattle.ojp_join.proofs.rides.ride_for.Goals as goal
-
-up_to : (k n : ℕ) → k < n + 1 → k ≤ n
-up_to k n h = omega (arith, h)
 
 pub returns-in-Some : goal.returns-in-Some
 returns-in-Some c = (omega (arith, c.in-Some.ensures.0, c.entries-test.true), c.in-Some.ensures.1, c.in-Some.ensures.2, c.in-Some.ensures.3)
