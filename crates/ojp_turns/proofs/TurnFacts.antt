@@ -4,6 +4,7 @@ use Rattle.std.specs.List.{filter_map, cons_option}
 use Rattle.std.proofs.lemmas.Bool.{true≢false, cases_Bool}
 use Rattle.std.proofs.lemmas.Option.{same_Some, none-some}
 use Rattle.ojp_outside.specs.Causes.{Rose}
+use Rattle.ojp_values.proofs.EachFacts.{each_of}
 use Rattle.ojp_values.specs.Lists.{Among, Each}
 use Rattle.ojp_values.specs.declared.asks.TripAsk.{TripAsk}
 use Rattle.ojp_values.proofs.ListFacts.{Member, among_append_left, among_append_right, among_map, among_map_back, among_filter, among_filter_map, among_filter_map_back, each_at}
@@ -30,10 +31,6 @@ use Rattle.ojp_turns.proofs.AskedFacts.{among_is, is_among_is, not_among_is, tol
 each_joined : {X : Type 0} (P : X → Type 0) (xs ys : List X) → Each P xs → Each P ys → Each P (xs ++ ys)
 each_joined P [] ys all more = more
 each_joined P (x ∷ xs) ys all more = (all.0, each_joined P xs ys all.1 more)
-
-each_of : {X : Type 0} (P : X → Type 0) (xs : List X) → ((x : X) → Among x xs → P x) → Each P xs
-each_of P [] all = tt
-each_of P (x ∷ xs) all = (all x (inl refl), each_of P xs (λ y h. all y (inr h)))
 
 each_turned : {X : Type 0} (P Q : X → Type 0) (xs : List X) → ((x : X) → P x → Q x) → Each P xs → Each Q xs
 each_turned P Q [] f all = tt
