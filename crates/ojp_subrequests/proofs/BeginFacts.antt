@@ -1,8 +1,8 @@
 -- The ask that a subrequest begins with.
-use Rattle.std.proofs.Common.{◌≡◌, ℕ, ◌≤◌, ◌==◌, ◌&&◌, ◌||◌, ◌⊎◌, inl, inr, not, Bool, true, false, List, [], length, refl, sym, ◌∙◌, ap, subst, arith, lit≤}
+use Rattle.std.proofs.Common.{◌≡◌, ℕ, ◌≤◌, ◌==◌, ◌&&◌, ◌||◌, inl, inr, not, Bool, true, false, List, [], length, refl, sym, ◌∙◌, ap, subst, arith, lit≤}
 use Rattle.std.specs.Prelude.{IfOk, IsTrue, Ok, Err, Result, nat_le}
 use Rattle.std.specs.List.{list_all}
-use Rattle.std.proofs.lemmas.Bool.{leb-true}
+use Rattle.std.proofs.lemmas.Bool.{leb-true, or_cases}
 use Rattle.std.proofs.lemmas.Bool.Decides.{nat_tests}
 use Rattle.std.proofs.lemmas.List.Elements.{All-weaker}
 use Rattle.std.proofs.lemmas.List.Sums.{AllPass-from_list_all}
@@ -21,15 +21,10 @@ use Rattle.ojp_links.specs.Replies.{IsExpectedOf, Requests, ask_of}
 use Rattle.ojp_links.specs.Seen.{Fixed, View, ask_at, code_at, code_in, codes_of}
 use Rattle.ojp_links.specs.Calls.{Begins}
 use Rattle.ojp_subrequests.specs.Hearing.{HasHeard, HearingView}
-use Rattle.ojp_subrequests.specs.Views.{SubView}
-use Rattle.ojp_subrequests.specs.Subrequests.{IsHeldIn, IsRequestOf, IsSpelled, MakesAsk, expect_of}
+use Rattle.ojp_subrequests.specs.Subrequests.{IsRequestOf, IsSpelled, MakesAsk, expect_of}
 use Rattle.ojp_subrequests.proofs.SubFacts.{sub_of}
 
 -- ---- the code as the Host
-
-or_cases : (a b : Bool) → a || b ≡ true → (a ≡ true) ⊎ (b ≡ true)
-or_cases true b h = inl refl
-or_cases false b h = inr h
 
 or_right : (a b : Bool) → b ≡ true → a || b ≡ true
 or_right true b h = refl
