@@ -9,8 +9,8 @@ use Rattle.ojp_values.specs.Texts.{Text, same, is_code}
 use Rattle.ojp_timetable.proofs.AmongFacts.{any_false, any_true}
 use Rattle.ojp_timetable.proofs.TextFacts.{is_same, same_is}
 use Rattle.ojp_timetable.specs.TableText.{lines_of}
-use Rattle.ojp_timetable.specs.declared.refusals.LineRefused.{LineRefused}
-use Rattle.ojp_timetable.specs.declared.refusals.LineRefused.TheVariants.{Reason, NoMemory}
+use Rattle.ojp_regions.specs.declared.line.RegionLineRefused.{RegionLineRefused}
+use Rattle.ojp_regions.specs.declared.line.RegionLineRefused.TheVariants.{Reason, NoMemory}
 use Rattle.ojp_regions.specs.Hosts.{is_host}
 use Rattle.ojp_regions.specs.Lines.{AddsLine, AreFields, HasFields, IsFault, IsFieldsRefusal, IsLineRefusal, Says, codes_in, values}
 use Rattle.ojp_regions.specs.RegionsText.{AreSaid, IsRefusal, IsText, refusal_of}
@@ -35,7 +35,7 @@ none_said text code host port has none region (other_code, other_host, other_por
       well_port = are.well_port;
     })
 
-pub fields_refused : (text code host port : Text) (result : Result RegionLine LineRefused) → HasFields text code host port → IfErr result (IsFieldsRefusal code host port)
+pub fields_refused : (text code host port : Text) (result : Result RegionLine RegionLineRefused) → HasFields text code host port → IfErr result (IsFieldsRefusal code host port)
     → IfErr result (λ refused. (above : List RegionLine) → IsLineRefusal above text refused)
 fields_refused text code host port (Ok region) has refused = tt
 fields_refused text code host port (Err (Reason reason)) has refused =
@@ -82,7 +82,7 @@ lengths R [] (y ∷ ys) p = absurd p
 lengths R (x ∷ xs) [] p = absurd p
 lengths R (x ∷ xs) (y ∷ ys) p = omega (arith, lengths R xs ys p.1)
 
-pub read_refused : (bytes rest : Text) (regions : List RegionLine) (line more : Text) (number : ℕ) (refused : LineRefused) → HasRead bytes rest regions → lines_of rest ≡ line ∷ lines_of more
+pub read_refused : (bytes rest : Text) (regions : List RegionLine) (line more : Text) (number : ℕ) (refused : RegionLineRefused) → HasRead bytes rest regions → lines_of rest ≡ line ∷ lines_of more
     → number ≡ length regions + 1 → IsLineRefusal regions line refused → IsRefusal bytes (refusal_of refused number)
 read_refused bytes rest regions line more number (Reason reason) read next counted fault = inl (record {
   above = read.above;

@@ -6,8 +6,8 @@ use Rattle.ojp_values.specs.Texts.{Text, is_code}
 use Rattle.ojp_timetable.specs.Fields.{body, fields_of}
 use Rattle.ojp_timetable.specs.declared.lines.TableReason.{TableReason}
 use Rattle.ojp_timetable.specs.declared.lines.TableReason.TheVariants.{LineForm, Value, DoubledName, Limit}
-use Rattle.ojp_timetable.specs.declared.refusals.LineRefused.{LineRefused}
-use Rattle.ojp_timetable.specs.declared.refusals.LineRefused.TheVariants.{Reason, NoMemory}
+use Rattle.ojp_regions.specs.declared.line.RegionLineRefused.{RegionLineRefused}
+use Rattle.ojp_regions.specs.declared.line.RegionLineRefused.TheVariants.{Reason, NoMemory}
 use Rattle.ojp_regions.specs.Hosts.{is_host, IsPort}
 use Rattle.ojp_regions.specs.declared.line.RegionLine.{RegionLine}
 
@@ -48,12 +48,12 @@ pub data IsFault (above : List RegionLine) (text : Text) : TableReason → Type 
   too_many : (region : RegionLine) → Says text region → (Among region.code (codes_in above) → ⊥) → 32 ≤ length above → IsFault above text Limit
 
 -- the reason is that of the line; want of memory may come at any line
-abbrev pub IsLineRefusal : List RegionLine → Text → LineRefused → Type 0
+abbrev pub IsLineRefusal : List RegionLine → Text → RegionLineRefused → Type 0
 IsLineRefusal above text (Reason reason) = IsFault above text reason
 IsLineRefusal above text NoMemory = Unit {0}
 
 -- the fields are no region's; want of memory may come at any
-abbrev pub IsFieldsRefusal : Text → Text → Text → LineRefused → Type 0
+abbrev pub IsFieldsRefusal : Text → Text → Text → RegionLineRefused → Type 0
 IsFieldsRefusal code host port (Reason reason) = (reason ≡ Value) × ((region : RegionLine) → AreFields code host port region → ⊥)
 IsFieldsRefusal code host port NoMemory = Unit {0}
 

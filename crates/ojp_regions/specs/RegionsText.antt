@@ -5,8 +5,8 @@ use Rattle.ojp_values.specs.Texts.{Text}
 use Rattle.ojp_timetable.specs.TableText.{lines_of}
 use Rattle.ojp_timetable.specs.declared.lines.TableReason.{TableReason}
 use Rattle.ojp_timetable.specs.declared.lines.TableReason.TheVariants.{LineForm}
-use Rattle.ojp_timetable.specs.declared.refusals.LineRefused.{LineRefused}
-use Rattle.ojp_timetable.specs.declared.refusals.LineRefused.TheVariants.{Reason, NoMemory as LineNoMemory}
+use Rattle.ojp_regions.specs.declared.line.RegionLineRefused.{RegionLineRefused}
+use Rattle.ojp_regions.specs.declared.line.RegionLineRefused.TheVariants.{Reason, NoMemory as LineNoMemory}
 use Rattle.ojp_regions.specs.Lines.{Says, IsFault, codes_in}
 use Rattle.ojp_regions.specs.declared.line.RegionLine.{RegionLine}
 use Rattle.ojp_regions.specs.declared.reading.RegionsRefused.{RegionsRefused}
@@ -49,6 +49,6 @@ IsRefusal bytes (At line reason) = IsListRefused bytes line reason
 IsRefusal bytes NoMemory = Unit {0}
 
 -- the refusal of the line of that number
-abbrev pub refusal_of : LineRefused → ℕ → RegionsRefused
+abbrev pub refusal_of : RegionLineRefused → ℕ → RegionsRefused
 refusal_of (Reason reason) line = At line reason
 refusal_of LineNoMemory line = NoMemory

@@ -7,11 +7,18 @@ ghost use Rattle.ojp_regions.specs.declared.line.RegionLine.{RegionLine as Regio
 
 use crate::host::{Host, is_host};
 use crate::port::read_port;
-use ojp_timetable::{LineRefused, TableReason};
+use ojp_timetable::TableReason;
 use ojp_values::{Code, NoMemory};
 use ojp_zones::parts::Split;
 use ojp_zones::splits::split;
 use std::alloc::Global;
+
+/// Why a line is not taken.
+#[derive(Clone, Copy, Debug, PartialEq, Eq)]
+pub enum RegionLineRefused {
+    Reason(TableReason),
+    NoMemory,
+}
 
 /// A region: its code, and where its server listens. The port is 1 at least.
 #[derive(Debug, Drop)]
@@ -38,34 +45,34 @@ fn read_fields(
     code: &[u8],
     host: &[u8],
     port: &[u8],
-) -> Result<RegionLine, LineRefused>
+) -> Result<RegionLine, RegionLineRefused>
     ensures said { IfOk result (AreFields code.now host.now port.now) }
     ensures refused { IfErr result (IsFieldsRefusal code.now host.now port.now) }
 {
     let Some(code) = Code::from_bytes(code) else {
-        return Err(LineRefused::Reason(TableReason::Value));
+        return Err(RegionLineRefused::Reason(TableReason::Value));
     };
     let Some(port) = read_port(port) else {
-        return Err(LineRefused::Reason(TableReason::Value));
+        return Err(RegionLineRefused::Reason(TableReason::Value));
     };
     if !is_host(host) {
-        return Err(LineRefused::Reason(TableReason::Value));
+        return Err(RegionLineRefused::Reason(TableReason::Value));
     }
     match Host::new(alloc, host) {
         Ok(host) => Ok(RegionLine { code, host, port }),
-        Err(NoMemory) => Err(LineRefused::NoMemory),
+        Err(NoMemory) => Err(RegionLineRefused::NoMemory),
     }
 }
 
 /// The region that the line says, or the first check of its form and its values that it fails.
-pub(crate) fn read_line(alloc: Global, text: &[u8]) -> Result<RegionLine, LineRefused>
+pub(crate) fn read_line(alloc: Global, text: &[u8]) -> Result<RegionLine, RegionLineRefused>
     ensures said { IfOk result (Says text.now) }
     ensures refused { IfErr result (λ refused. (above : List RegionLineValue) → IsLineRefusal above text.now refused) }
 {
     match split(body(text), b' ') {
         Split::Three(code, host, port) => read_fields(alloc, code, host, port),
-        Split::One(_) => Err(LineRefused::Reason(TableReason::LineForm)),
-        Split::Two(_, _) => Err(LineRefused::Reason(TableReason::LineForm)),
-        Split::More => Err(LineRefused::Reason(TableReason::LineForm)),
+        Split::One(_) => Err(RegionLineRefused::Reason(TableReason::LineForm)),
+        Split::Two(_, _) => Err(RegionLineRefused::Reason(TableReason::LineForm)),
+        Split::More => Err(RegionLineRefused::Reason(TableReason::LineForm)),
     }
 }

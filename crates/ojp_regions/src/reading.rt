@@ -7,9 +7,9 @@ ghost use Rattle.ojp_timetable.specs.TableText.{lines_of};
 ghost use Rattle.ojp_regions.specs.Lines.{AddsLine, IsLineRefusal};
 ghost use Rattle.ojp_regions.specs.RegionsText.{IsRefusal, IsText, refusal_of};
 
-use crate::line::{RegionLine, read_line};
+use crate::line::{RegionLine, RegionLineRefused, read_line};
 use memchr::memchr;
-use ojp_timetable::{LineRefused, TableReason};
+use ojp_timetable::TableReason;
 use ojp_values::{Code, List};
 use std::alloc::Global;
 
@@ -47,7 +47,11 @@ fn has_code(regions: &[RegionLine], code: &Code) -> bool
 }
 
 /// Takes the line below those of these regions.
-fn add_line(alloc: Global, text: &[u8], regions: &mut List<RegionLine>) -> Result<(), LineRefused>
+fn add_line(
+    alloc: Global,
+    text: &[u8],
+    regions: &mut List<RegionLine>,
+) -> Result<(), RegionLineRefused>
     ensures added { OnOk result (AddsLine regions.old text.now regions.new) }
     ensures refused { IfErr result (IsLineRefusal regions.old text.now) }
     ensures kept { OnErr result (regions.new ≡ regions.old) }
@@ -57,24 +61,24 @@ fn add_line(alloc: Global, text: &[u8], regions: &mut List<RegionLine>) -> Resul
         Err(refused) => return Err(refused),
     };
     if has_code(regions.as_slice(), &region.code) {
-        return Err(LineRefused::Reason(TableReason::DoubledName));
+        return Err(RegionLineRefused::Reason(TableReason::DoubledName));
     }
     if regions.len() >= REGIONS {
-        return Err(LineRefused::Reason(TableReason::Limit));
+        return Err(RegionLineRefused::Reason(TableReason::Limit));
     }
     if regions.push(region).is_err() {
-        return Err(LineRefused::NoMemory);
+        return Err(RegionLineRefused::NoMemory);
     }
     Ok(())
 }
 
 /// The refusal of the line of that number.
-fn refusal(refused: LineRefused, line: u64) -> RegionsRefused
+fn refusal(refused: RegionLineRefused, line: u64) -> RegionsRefused
     ensures { result ≡ refusal_of refused line }
 {
     match refused {
-        LineRefused::Reason(reason) => RegionsRefused::At { line, reason },
-        LineRefused::NoMemory => RegionsRefused::NoMemory,
+        RegionLineRefused::Reason(reason) => RegionsRefused::At { line, reason },
+        RegionLineRefused::NoMemory => RegionsRefused::NoMemory,
     }
 }
 
