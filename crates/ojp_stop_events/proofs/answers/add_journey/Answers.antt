@@ -7,7 +7,7 @@ use Rattle.ojp_stop_events.proofs.answers.add_journey.Goals as goal
 use Rattle.ojp_stop_events.proofs.answers.add_journey.Goals.{then-is_at_stop+in_ok-add_call, else-is_at_stop}
 
 pub call-call-requires : goal.call-call-requires
-call-call-requires c = omega (arith, c.calls-test.true, calls_told c.args.table.now.journeys c.args.journey c.journey.result c.journey.ensures)
+call-call-requires c = omega (arith, c.calls-test.true, calls_told c.args.table.now.journeys c.args.journey c.journey-calls.result c.journey-calls.ensures)
 
 pub add_call-requires-clause-call : goal.add_call-requires-clause-call
 add_call-requires-clause-call c = called c.args.table.now c.args.journey c.calls.position c.call-call.result c.requires.within c.call-call.ensures
@@ -32,6 +32,6 @@ calls-preserved c =
 
 pub returns : goal.returns
 returns c =
-    let told = calls_told c.args.table.now.journeys c.args.journey c.journey.result c.journey.ensures in
+    let told = calls_told c.args.table.now.journeys c.args.journey c.journey-calls.result c.journey-calls.ensures in
     let all : length (calls_at c.args.table.now.journeys c.args.journey) ≤ c.calls.position = omega (arith, told, c.calls-test.false) in
     no_more_calls c.args.table.now c.args.ask.now c.args.journey c.calls.position c.calls.first.items c.requires.within all c.calls.invariant
