@@ -18,20 +18,20 @@ returns-in-Ok-answer-clause-complete g c =
     served_ask (RegionAnswers c.args.table.now) (wire (g.I.Source.seen c.args.input.now) (g.O.Sink.seen c.args.output.now))
     (wire (g.I.Source.seen c.take_ask.new.input) (g.O.Sink.seen c.deliver.new.output)) c.deliver.result (returns-in-Ok-answer-clause-serves g c)
 
-pub returns-in-Err-answer-clause-serves : goal.returns-in-Err-answer-clause-serves
-returns-in-Err-answer-clause-serves g c =
+pub returns-in-Ok-clause-serves : goal.returns-in-Ok-clause-serves
+returns-in-Ok-clause-serves g c =
     serves_without (RegionAnswers c.args.table.now) (wire (g.I.Source.seen c.args.input.now) (g.O.Sink.seen c.args.output.now))
     (wire (g.I.Source.seen c.take_ask.new.input) (g.O.Sink.seen c.give_up.new.sink))
     c.in-Ok.ask c.give_up.result c.in-Ok.ensures (c.give_up.ensures.served, c.give_up.ensures.written)
 
 -- the request asked nothing
-pub returns-in-Err-clause-serves : goal.returns-in-Err-clause-serves
-returns-in-Err-clause-serves g c =
+pub returns-clause-serves : goal.returns-clause-serves
+returns-clause-serves g c =
     serves_declined (RegionAnswers c.args.table.now) (wire (g.I.Source.seen c.args.input.now) (g.O.Sink.seen c.args.output.now))
     (wire (g.I.Source.seen c.take_ask.new.input) (g.O.Sink.seen c.decline.new.output))
     c.in-Err.declined c.decline.result c.in-Err.ensures c.decline.ensures
 
-pub returns-in-Err-clause-complete : goal.returns-in-Err-clause-complete
-returns-in-Err-clause-complete g c =
+pub returns-clause-complete : goal.returns-clause-complete
+returns-clause-complete g c =
     served_ask (RegionAnswers c.args.table.now) (wire (g.I.Source.seen c.args.input.now) (g.O.Sink.seen c.args.output.now))
-    (wire (g.I.Source.seen c.take_ask.new.input) (g.O.Sink.seen c.decline.new.output)) c.decline.result (returns-in-Err-clause-serves g c)
+    (wire (g.I.Source.seen c.take_ask.new.input) (g.O.Sink.seen c.decline.new.output)) c.decline.result (returns-clause-serves g c)
