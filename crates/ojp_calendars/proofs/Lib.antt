@@ -1,0 +1,5 @@
+pub mod LabelFacts
+pub mod MarkFacts
+pub mod BoxFacts
+pub mod NoonFacts
+pub mod RuleFacts
