@@ -1,0 +1,4 @@
+pub mod AddingFacts
+pub mod DayFacts
+pub mod FateFacts
+pub mod JourneyFacts

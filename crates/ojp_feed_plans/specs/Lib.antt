@@ -1,0 +1,5 @@
+pub mod Adding
+pub mod Days
+pub mod Journeys
+pub mod Plans
+pub mod Tallies

@@ -1,0 +1,281 @@
+//! The journeys of a plan.
+
+ghost use Rattle.std.specs.Prelude.{◌≡◌, map, IfOk, OnOk};
+ghost use Rattle.std.specs.List.{All};
+ghost use Rattle.ojp_feed_plans.specs.Adding.{Adds};
+ghost use Rattle.ojp_feed_plans.specs.Days.{AreBoxesIn};
+ghost use Rattle.ojp_feed_plans.specs.Journeys.{IsJourneyOf, IsMade, IsOfStart, IsOfTrip};
+
+use crate::memory::put;
+use crate::plans::PlannedJourney;
+use crate::refusals::PlanRefused;
+use crate::trips::{JOURNEYS, boxes_of_trip};
+use indexmap::IndexMap;
+use ojp_calendars::DayBox;
+use ojp_feed_labels::{LabelsRefused, hashed, label_of, own_labels, repeated};
+use ojp_feed_rows::{Feed, Route, Trip};
+use ojp_feed_trips::{Pattern, starts_of};
+use ojp_values::{Label, NoMemory};
+use std::alloc::Global;
+
+/// The most calls of a timetable.
+pub const CALLS: usize = 100_000;
+
+/// The most bytes of a trip's label, which leaves room for what tells its journeys apart.
+const TRIP_LABEL: usize = 21;
+
+/// Journeys, and what is known of them: the trip of each label, and how many calls they have.
+#[derive(Drop)]
+pub struct Journeys {
+    pub journeys: Vec<PlannedJourney>,
+    pub calls: usize,
+    pub labels: u64,
+    trips: IndexMap<Label, usize>,
+    seen: IndexMap<Label, usize>,
+}
+
+/// The journeys of the patterns, where the services of the feed have these days.
+pub fn journeys_of(
+    alloc: Global,
+    feed: &Feed,
+    patterns: &[Pattern],
+    boxes: &[Vec<DayBox>],
+) -> Result<Journeys, PlanRefused>
+    requires { AreBoxesIn feed.now (map (λ boxes. boxes.items) boxes.now) }
+    ensures { IfOk result (λ made. All (IsJourneyOf feed.now patterns.now) made.journeys.items) }
+{
+    let labels = trip_labels(alloc, feed, patterns)?;
+    let mut made = Journeys {
+        journeys: Vec::new(alloc),
+        calls: 0,
+        labels: 0,
+        trips: labels_seen(alloc, labels.as_slice())?,
+        seen: IndexMap::new(alloc),
+    };
+    for (number, pattern) in patterns.iter().enumerate() {
+        let Some(trip) = feed.trips.as_slice().get(pattern.trip) else {
+            continue;
+        };
+        let Some(label) = labels.as_slice().get(number) else {
+            continue;
+        };
+        let common = Common {
+            number,
+            label: *label,
+            line: line_of(feed, trip),
+            is_repeated: !trip.frequencies.is_empty(),
+        };
+        let days = boxes_of_trip(trip, boxes);
+        made.add_trip(alloc, trip, common, pattern.halts.len(), days)?;
+    }
+    Ok(made)
+}
+
+// The labels of the patterns' trips.
+fn trip_labels(
+    alloc: Global,
+    feed: &Feed,
+    patterns: &[Pattern],
+) -> Result<Vec<Label>, PlanRefused> {
+    let mut ids = Vec::new(alloc);
+    for pattern in patterns {
+        let id = match feed.trips.as_slice().get(pattern.trip) {
+            Some(trip) => trip.id.as_str(),
+            None => "",
+        };
+        if ids.push(id).is_err() {
+            return Err(PlanRefused::NoMemory);
+        }
+    }
+    match own_labels(alloc, ids.as_slice(), TRIP_LABEL) {
+        Ok(labels) => Ok(labels.into_items()),
+        Err(LabelsRefused::NoMemory) => Err(PlanRefused::NoMemory),
+        Err(LabelsRefused::Doubled { first, second }) => Err(PlanRefused::DoubledTrips {
+            first: trip_at(patterns, first),
+            second: trip_at(patterns, second),
+        }),
+    }
+}
+
+// The trip of the pattern of that number.
+fn trip_at(patterns: &[Pattern], number: usize) -> usize {
+    match patterns.get(number) {
+        Some(pattern) => pattern.trip,
+        None => number,
+    }
+}
+
+// The labels, each with its number.
+fn labels_seen(alloc: Global, labels: &[Label]) -> Result<IndexMap<Label, usize>, PlanRefused> {
+    let mut seen = IndexMap::new(alloc);
+    for (number, label) in labels.iter().enumerate() {
+        if seen.insert(*label, number).is_err() {
+            return Err(PlanRefused::NoMemory);
+        }
+    }
+    Ok(seen)
+}
+
+// The label of the trip's line, by the short name of its route, else by its id.
+fn line_of(feed: &Feed, trip: &Trip) -> Label {
+    match trip.route {
+        Some(route) => match feed.routes.as_slice().get(route as usize) {
+            Some(route) => label_of(line_name(route).as_bytes(), 32),
+            None => label_of(b"-", 32),
+        },
+        None => label_of(b"-", 32),
+    }
+}
+
+// The short name of the route, else its id.
+fn line_name(route: &Route) -> &str {
+    if route.short_name.is_empty() {
+        route.id.as_str()
+    } else {
+        route.short_name.as_str()
+    }
+}
+
+/// What the journeys of a trip have in common: its number among the patterns, its labels, and whether it is repeated.
+#[derive(Clone, Copy)]
+struct Common {
+    number: usize,
+    label: Label,
+    line: Label,
+    is_repeated: bool,
+}
+
+impl Common {
+    // The label of the journey that departs so, for the box of that number of so many.
+    fn label_of(&self, start: u32, place: usize, count: usize) -> Label {
+        let departs = if self.is_repeated { Some(start) } else { None };
+        let line = if count > 1 {
+            Some((place as u64).saturating_add(1))
+        } else {
+            None
+        };
+        repeated(self.label, departs, line)
+    }
+}
+
+impl Journeys {
+    // Adds the journeys of a trip: one for each of its departures and boxes.
+    fn add_trip(
+        &mut self,
+        alloc: Global,
+        trip: &Trip,
+        common: Common,
+        calls: usize,
+        days: &[DayBox],
+    ) -> Result<(), PlanRefused>
+        ensures { OnOk result (Adds (IsOfTrip trip.now common.number days.now) self.old.journeys.items self.new.journeys.items) }
+    {
+        let Ok(starts) = starts_of(alloc, trip, JOURNEYS) else {
+            return Err(PlanRefused::NoMemory);
+        };
+        let named = self.apart(trip, common, starts.as_slice(), days.len());
+        if named.label.text() != trip.id.as_bytes() {
+            self.labels = self.labels.saturating_add(1);
+        }
+        for start in starts.as_slice() {
+            self.add_days(named, *start, calls, days)?;
+        }
+        Ok(())
+    }
+
+    // The same in the hashed form, where a label of its journeys would be that of another trip.
+    fn apart(&self, trip: &Trip, common: Common, starts: &[u32], count: usize) -> Common
+        ensures { result.number ≡ common.number }
+    {
+        if !common.is_repeated && count < 2 {
+            return common;
+        }
+        for start in starts {
+            if self.is_taken(&common, *start, count) {
+                let label = hashed(trip.id.as_bytes(), TRIP_LABEL);
+                return Common { label, ..common };
+            }
+        }
+        common
+    }
+
+    // Whether a label of the journeys that depart so is that of another trip.
+    fn is_taken(&self, common: &Common, start: u32, count: usize) -> bool {
+        for place in 0..count {
+            if self
+                .trips
+                .contains_key(&common.label_of(start, place, count))
+            {
+                return true;
+            }
+        }
+        false
+    }
+
+    // Adds the journeys of a departure.
+    fn add_days(
+        &mut self,
+        common: Common,
+        start: u32,
+        calls: usize,
+        days: &[DayBox],
+    ) -> Result<(), PlanRefused>
+        ensures { OnOk result (Adds (IsOfStart common.number start days.now) self.old.journeys.items self.new.journeys.items) }
+    {
+        for (place, found) in days.iter().enumerate() {
+            let label = common.label_of(start, place, days.len());
+            self.add(common, label, start, calls, *found)?;
+        }
+        Ok(())
+    }
+
+    // Adds a journey.
+    fn add(
+        &mut self,
+        common: Common,
+        label: Label,
+        start: u32,
+        calls: usize,
+        days: DayBox,
+    ) -> Result<(), PlanRefused>
+        ensures { OnOk result (Adds (IsMade common.number start days) self.old.journeys.items self.new.journeys.items) }
+    {
+        if self.journeys.len() >= JOURNEYS {
+            return Err(PlanRefused::TooManyJourneys);
+        }
+        let calls = self.calls.saturating_add(calls);
+        if calls > CALLS {
+            return Err(PlanRefused::TooManyCalls);
+        }
+        let pattern = common.number;
+        claim(&mut self.seen, label, pattern)?;
+        self.calls = calls;
+        let journey = PlannedJourney {
+            label,
+            line: common.line,
+            days,
+            pattern,
+            start,
+        };
+        match put(&mut self.journeys, journey) {
+            Ok(()) => Ok(()),
+            Err(NoMemory) => Err(PlanRefused::NoMemory),
+        }
+    }
+}
+
+// Notes that the label is that of a journey of the pattern.
+fn claim(
+    seen: &mut IndexMap<Label, usize>,
+    label: Label,
+    pattern: usize,
+) -> Result<(), PlanRefused> {
+    match seen.insert(label, pattern) {
+        Ok(None) => Ok(()),
+        Ok(Some(first)) => Err(PlanRefused::DoubledTrips {
+            first,
+            second: pattern,
+        }),
+        Err(_) => Err(PlanRefused::NoMemory),
+    }
+}
