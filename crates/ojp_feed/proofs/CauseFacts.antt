@@ -6,8 +6,8 @@ use Rattle.ojp_feed_plans.specs.Plans.{IsPlanOf}
 use Rattle.ojp_feed_plans.specs.declared.plans.Plan.{Plan}
 use Rattle.ojp_timetable.specs.Refusals.{IsRefusal}
 use Rattle.ojp_timetable.specs.TableText.{IsTextRefused}
-use Rattle.ojp_timetable.specs.declared.refusals.TableRefused.{TableRefused}
-use Rattle.ojp_timetable.specs.declared.refusals.TableRefused.TheVariants.{At, NoMemory}
+use Rattle.ojp_timetable.specs.declared.file.refusals.TableRefused.{TableRefused}
+use Rattle.ojp_timetable.specs.declared.file.refusals.TableRefused.TheVariants.{At, NoMemory}
 use Rattle.ojp_feed.specs.Converting.{IsCause, refusal_of}
 use Rattle.ojp_feed.specs.Texts.{text_of}
 use Rattle.ojp_feed.specs.declared.converting.ConvertRefused.{ConvertRefused}

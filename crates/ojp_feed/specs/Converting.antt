@@ -5,9 +5,9 @@ use Rattle.ojp_feed_rows.specs.declared.settings.Settings.{Settings}
 use Rattle.ojp_feed_plans.specs.Plans.{IsPlanOf}
 use Rattle.ojp_feed_plans.specs.declared.plans.Plan.{Plan}
 use Rattle.ojp_timetable.specs.TableText.{IsTextRefused}
-use Rattle.ojp_timetable.specs.declared.lines.TableReason.{TableReason}
-use Rattle.ojp_timetable.specs.declared.refusals.TableRefused.{TableRefused}
-use Rattle.ojp_timetable.specs.declared.refusals.TableRefused.TheVariants.{At, NoMemory}
+use Rattle.ojp_timetable.specs.declared.file.lines.TableReason.{TableReason}
+use Rattle.ojp_timetable.specs.declared.file.refusals.TableRefused.{TableRefused}
+use Rattle.ojp_timetable.specs.declared.file.refusals.TableRefused.TheVariants.{At, NoMemory}
 use Rattle.ojp_feed.specs.Texts.{text_of}
 use Rattle.ojp_feed.specs.declared.converting.ConvertRefused.{ConvertRefused}
 use Rattle.ojp_feed.specs.declared.converting.ConvertRefused.TheVariants as refusals

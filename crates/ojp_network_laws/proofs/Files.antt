@@ -14,9 +14,9 @@ use Rattle.ojp_timetable.specs.Runs.{AreDays}
 use Rattle.ojp_timetable.specs.Said.{is_closed}
 use Rattle.ojp_timetable.specs.TableText.{ArePassed, IsTextRefused, above_of, lines_of}
 use Rattle.ojp_timetable.specs.Tables.{Service}
-use Rattle.ojp_timetable.specs.declared.above.TheConstants.{BYTES}
-use Rattle.ojp_timetable.specs.declared.lines.Open.TheVariants.{Nothing}
-use Rattle.ojp_timetable.specs.declared.lines.TableReason.{TableReason}
+use Rattle.ojp_timetable.specs.declared.file.above.TheConstants.{BYTES}
+use Rattle.ojp_timetable.specs.declared.file.lines.Open.TheVariants.{Nothing}
+use Rattle.ojp_timetable.specs.declared.file.lines.TableReason.{TableReason}
 use Rattle.ojp_texts.specs.Spelled.{journey_lines, service_line, spelled}
 use Rattle.ojp_texts.proofs.Fitting.{AreRead, ends_below, read_below}
 use Rattle.ojp_texts.proofs.PlaceRows.{declares, takes_services}

@@ -12,7 +12,7 @@ use Rattle.ojp_timetable.specs.Checks.{is_stop_elsewhere}
 use Rattle.ojp_timetable.specs.Runs.{AreWhole, IsOffset, NoneFalls, calls_of}
 use Rattle.ojp_timetable.specs.Tables.{Journey, Place}
 use Rattle.ojp_timetable.specs.declared.calls.Call.{Call}
-use Rattle.ojp_timetable.specs.declared.lines.Open.TheVariants.{Nothing}
+use Rattle.ojp_timetable.specs.declared.file.lines.Open.TheVariants.{Nothing}
 use Rattle.ojp_timetable.proofs.TextFacts.{is_same}
 use Rattle.ojp_texts.specs.Spelled.{IsNamed, journey_lines}
 use Rattle.ojp_texts.proofs.JourneyRows.{IsSpelledCall, IsSpelledJourney, takes_journeys}

@@ -7,7 +7,7 @@ use Rattle.ojp_values.specs.Texts.{Text, text_lt}
 use Rattle.ojp_links.specs.Seen.{region_of_table}
 use Rattle.ojp_timetable.specs.Tables.{Timetable}
 use Rattle.ojp_timetable.specs.TableText.{IsTextRefused, IsText}
-use Rattle.ojp_timetable.specs.declared.lines.TableReason.{TableReason}
+use Rattle.ojp_timetable.specs.declared.file.lines.TableReason.{TableReason}
 use Rattle.ojp_network.specs.Draws.{below, state_after}
 use Rattle.ojp_network.specs.Networks.{file_of}
 use Rattle.ojp_network.specs.Regions.{region_code}

@@ -9,8 +9,8 @@ use Rattle.ojp_values.specs.declared.trips.Point.{Point}
 use Rattle.ojp_values.proofs.ListFacts.{among_append_right, among_list_any, each_at}
 use Rattle.ojp_zones.specs.declared.zone.Zone.{Zone}
 use Rattle.ojp_timetable.specs.Tables.{Place}
-use Rattle.ojp_timetable.specs.declared.lines.Line.{Line}
-use Rattle.ojp_timetable.specs.declared.lines.Open.TheVariants.{Nothing}
+use Rattle.ojp_timetable.specs.declared.file.lines.Line.{Line}
+use Rattle.ojp_timetable.specs.declared.file.lines.Open.TheVariants.{Nothing}
 use Rattle.ojp_timetable.proofs.TextFacts.{same_itself}
 use Rattle.ojp_texts.specs.Spelled.{HaveOwn, IsNamed, neighbour_lines, place_line}
 use Rattle.ojp_texts.proofs.PlaceRows.{IsSpelledPoint, declares, takes_neighbours, takes_places}

@@ -12,8 +12,8 @@ use Rattle.ojp_zones.specs.declared.zone.Zone.{Zone}
 use Rattle.ojp_timetable.specs.Fields.{joined}
 use Rattle.ojp_timetable.specs.Tables.{Journey, Place}
 use Rattle.ojp_timetable.specs.declared.calls.Call.{Call}
-use Rattle.ojp_timetable.specs.declared.lines.Line.{Line}
-use Rattle.ojp_timetable.specs.declared.lines.Line.TheVariants as lines
+use Rattle.ojp_timetable.specs.declared.file.lines.Line.{Line}
+use Rattle.ojp_timetable.specs.declared.file.lines.Line.TheVariants as lines
 use Rattle.ojp_texts.specs.Spelled.{journey_lines, label_at, neighbour_lines, place_line, service_line, spelled, time_text as line_time}
 use Rattle.ojp_network.specs.Draws.{state_after}
 use Rattle.ojp_network.specs.Regions.{call_text, file, head_text, higher_point, journey, journey_head, journey_text, journeys, lower_point, neighbour_text, own_places, place_text, point_text, region_code, service_text, shared_neighbour, shared_place, shared_point, shared_stop, time_text}

@@ -2,7 +2,7 @@
 use Rattle.std.specs.Prelude.{◌≡◌, ◌≢◌, ◌≤◌, ℕ, true, List, [], ◌∷◌, ◌++◌, codes, length, map}
 use Rattle.ojp_timetable.specs.Tables.{Service, Timetable}
 use Rattle.ojp_timetable.specs.TableText.{IsTextRefused, IsText}
-use Rattle.ojp_timetable.specs.declared.lines.TableReason.{TableReason}
+use Rattle.ojp_timetable.specs.declared.file.lines.TableReason.{TableReason}
 use Rattle.ojp_values.specs.Lists.{Each, IsRising, Pairwise}
 use Rattle.ojp_values.specs.Texts.{Text, text_lt}
 use Rattle.ojp_values.specs.declared.trips.Point.{Point}

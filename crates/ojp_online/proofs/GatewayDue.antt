@@ -6,7 +6,7 @@ use Rattle.ojp_outside.specs.Files.{IsContents}
 use Rattle.ojp_outside.specs.Seen.{SinkView, StoreView}
 use Rattle.ojp_outside.specs.declared.store.TheConstants.{FILE_LIMIT}
 use Rattle.ojp_timetable.specs.Tables.{Timetable}
-use Rattle.ojp_timetable.specs.declared.lines.TableReason.{TableReason}
+use Rattle.ojp_timetable.specs.declared.file.lines.TableReason.{TableReason}
 use Rattle.ojp_exchange.specs.Book.{Book, points_of}
 use Rattle.ojp_exchange.specs.Joins.{IsJoined, JoinFails as IsBookRefused}
 use Rattle.ojp_exchange.specs.declared.region_points.RegionPoints.{RegionPoints}

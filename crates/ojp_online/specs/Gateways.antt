@@ -7,7 +7,7 @@ use Rattle.ojp_outside.specs.Causes.{Rests}
 use Rattle.ojp_outside.specs.declared.store.TheConstants.{FILE_LIMIT}
 use Rattle.ojp_outside.specs.Seen.{SinkView, StoreView}
 use Rattle.ojp_timetable.specs.Tables.{Timetable}
-use Rattle.ojp_timetable.specs.declared.lines.TableReason.{TableReason}
+use Rattle.ojp_timetable.specs.declared.file.lines.TableReason.{TableReason}
 use Rattle.ojp_exchange.specs.Book.{Book, points_of}
 use Rattle.ojp_exchange.specs.Joins.{IsJoined}
 use Rattle.ojp_exchange.specs.declared.refusals.BookRefused.TheVariants as refusals

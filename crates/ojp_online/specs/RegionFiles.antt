@@ -4,7 +4,7 @@ use Rattle.ojp_values.specs.Texts.{Text}
 use Rattle.ojp_outside.specs.Files.{IsContents}
 use Rattle.ojp_outside.specs.declared.store.TheConstants.{FILE_LIMIT}
 use Rattle.ojp_outside.specs.Seen.{StoreView}
-use Rattle.ojp_timetable.specs.declared.lines.TableReason.{TableReason}
+use Rattle.ojp_timetable.specs.declared.file.lines.TableReason.{TableReason}
 use Rattle.ojp_regions.specs.RegionsText.{IsText, IsListRefused}
 use Rattle.ojp_regions.specs.declared.line.RegionLine.{RegionLine}
 use Rattle.ojp_steps.specs.Lent.{Lent, before}

@@ -8,7 +8,7 @@ use Rattle.ojp_outside.specs.Seen.{SourceView, SinkView, StoreView}
 use Rattle.ojp_outside.specs.declared.store.TheConstants.{FILE_LIMIT}
 use Rattle.ojp_timetable.specs.Tables.{Timetable}
 use Rattle.ojp_timetable.specs.TableText.{IsText, IsTextRefused as IsTableRefused}
-use Rattle.ojp_timetable.specs.declared.lines.TableReason.{TableReason}
+use Rattle.ojp_timetable.specs.declared.file.lines.TableReason.{TableReason}
 use Rattle.ojp_timetable.proofs.NoonOnce.{one_table}
 use Rattle.ojp_timetable.proofs.RefusalFacts.{text_not_refused}
 use Rattle.ojp_grammar.specs.declared.refusals.Want.TheVariants as wants

@@ -4,7 +4,7 @@ use Rattle.ojp_values.specs.Lists.{Pairwise}
 use Rattle.ojp_values.specs.Texts.{Text}
 use Rattle.ojp_outside.specs.Seen.{StoreView}
 use Rattle.ojp_timetable.specs.Tables.{Timetable}
-use Rattle.ojp_timetable.specs.declared.lines.TableReason.{TableReason}
+use Rattle.ojp_timetable.specs.declared.file.lines.TableReason.{TableReason}
 use Rattle.ojp_region.specs.Files.{IsFileOf, IsRefusedFile, ReadsFile}
 use Rattle.ojp_links_mem.specs.Files.{FilesView}
 use Rattle.ojp_region.specs.declared.files.FileRefused.{FileRefused}

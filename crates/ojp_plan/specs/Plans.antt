@@ -9,7 +9,7 @@ use Rattle.ojp_outside.specs.Causes.{Rests}
 use Rattle.ojp_outside.specs.Seen.{SourceView, SinkView}
 use Rattle.ojp_timetable.specs.Tables.{Timetable}
 use Rattle.ojp_timetable.specs.TableText.{IsText, IsTextRefused as IsTableRefused}
-use Rattle.ojp_timetable.specs.declared.lines.TableReason.{TableReason}
+use Rattle.ojp_timetable.specs.declared.file.lines.TableReason.{TableReason}
 use Rattle.ojp_timetable.specs.GatewayAnswers.{GatewayAnswers}
 use Rattle.ojp_grammar.specs.Answering.{SpellsAsk, SpellsDelivery}
 use Rattle.ojp_grammar.specs.Places.{IsDocumentRefused}

@@ -7,7 +7,7 @@ use Rattle.ojp_outside.specs.declared.store.TheConstants.{FILE_LIMIT}
 use Rattle.ojp_values.specs.Texts.{Text}
 use Rattle.ojp_timetable.specs.Tables.{Timetable}
 use Rattle.ojp_timetable.specs.TableText.{IsText, IsTextRefused}
-use Rattle.ojp_timetable.specs.declared.lines.TableReason.{TableReason}
+use Rattle.ojp_timetable.specs.declared.file.lines.TableReason.{TableReason}
 use Rattle.ojp_region.specs.declared.files.FileRefused.{FileRefused}
 use Rattle.ojp_region.specs.declared.files.FileRefused.TheVariants.{Failed, TooLong, At, NoMemory}
 

@@ -5,7 +5,7 @@ use Rattle.ojp_values.specs.Texts.{Text}
 use Rattle.ojp_timetable.proofs.AmongFacts.{among_push}
 use Rattle.ojp_timetable.proofs.RefusalFacts.{neither}
 use Rattle.ojp_timetable.specs.TableText.{lines_of}
-use Rattle.ojp_timetable.specs.declared.lines.TableReason.{TableReason}
+use Rattle.ojp_timetable.specs.declared.file.lines.TableReason.{TableReason}
 use Rattle.ojp_regions.specs.Lines.{AddsLine, IsFault, Says, codes_in, form, values, doubled, too_many}
 use Rattle.ojp_regions.specs.RegionsText.{AreApart, AreSaid, IsListRefused, IsRefusedLine, IsText}
 use Rattle.ojp_regions.specs.declared.line.RegionLine.{RegionLine}

@@ -1,6 +1,6 @@
 -- Small files of regions, and what the definitions say of them.
 use Rattle.std.specs.Prelude.{[], ◌∷◌, codes}
-use Rattle.ojp_timetable.specs.declared.lines.TableReason.TheVariants.{LineForm, Value, DoubledName}
+use Rattle.ojp_timetable.specs.declared.file.lines.TableReason.TheVariants.{LineForm, Value, DoubledName}
 use Rattle.ojp_regions.specs.RegionsText.{IsListRefused, IsText}
 use Rattle.ojp_regions.specs.declared.line.RegionLine.{RegionLine}
 

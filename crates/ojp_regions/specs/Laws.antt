@@ -1,7 +1,7 @@
 -- Laws of the text of a file of regions.
 use Rattle.std.specs.Prelude.{◌≡◌, ℕ, List}
 use Rattle.ojp_values.specs.Texts.{Text}
-use Rattle.ojp_timetable.specs.declared.lines.TableReason.{TableReason}
+use Rattle.ojp_timetable.specs.declared.file.lines.TableReason.{TableReason}
 use Rattle.ojp_regions.specs.RegionsText.{IsListRefused, IsText}
 use Rattle.ojp_regions.specs.declared.line.RegionLine.{RegionLine}
 

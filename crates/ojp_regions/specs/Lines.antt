@@ -4,8 +4,8 @@ use Rattle.std.specs.Fmt.{decimal}
 use Rattle.ojp_values.specs.Lists.{Among}
 use Rattle.ojp_values.specs.Texts.{Text, is_code}
 use Rattle.ojp_timetable.specs.Fields.{body, fields_of}
-use Rattle.ojp_timetable.specs.declared.lines.TableReason.{TableReason}
-use Rattle.ojp_timetable.specs.declared.lines.TableReason.TheVariants.{LineForm, Value, DoubledName, Limit}
+use Rattle.ojp_timetable.specs.declared.file.lines.TableReason.{TableReason}
+use Rattle.ojp_timetable.specs.declared.file.lines.TableReason.TheVariants.{LineForm, Value, DoubledName, Limit}
 use Rattle.ojp_regions.specs.declared.line.RegionLineRefused.{RegionLineRefused}
 use Rattle.ojp_regions.specs.declared.line.RegionLineRefused.TheVariants.{Reason, NoMemory}
 use Rattle.ojp_regions.specs.Hosts.{is_host, IsPort}

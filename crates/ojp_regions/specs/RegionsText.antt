@@ -3,8 +3,8 @@ use Rattle.std.specs.Prelude.{◌≡◌, ◌≢◌, ◌⊎◌, ℕ, ◌+◌, ◌
 use Rattle.ojp_values.specs.Lists.{Among, Pairwise}
 use Rattle.ojp_values.specs.Texts.{Text}
 use Rattle.ojp_timetable.specs.TableText.{lines_of}
-use Rattle.ojp_timetable.specs.declared.lines.TableReason.{TableReason}
-use Rattle.ojp_timetable.specs.declared.lines.TableReason.TheVariants.{LineForm}
+use Rattle.ojp_timetable.specs.declared.file.lines.TableReason.{TableReason}
+use Rattle.ojp_timetable.specs.declared.file.lines.TableReason.TheVariants.{LineForm}
 use Rattle.ojp_regions.specs.declared.line.RegionLineRefused.{RegionLineRefused}
 use Rattle.ojp_regions.specs.declared.line.RegionLineRefused.TheVariants.{Reason, NoMemory as LineNoMemory}
 use Rattle.ojp_regions.specs.Lines.{Says, IsFault, codes_in}

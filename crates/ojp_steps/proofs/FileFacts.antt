@@ -7,7 +7,7 @@ use Rattle.ojp_outside.specs.declared.store.TheConstants.{FILE_LIMIT}
 use Rattle.ojp_outside.specs.Causes.{Rose, Rests}
 use Rattle.ojp_timetable.specs.Tables.{Timetable}
 use Rattle.ojp_timetable.specs.TableText.{IsText, IsTextRefused, lines_of}
-use Rattle.ojp_timetable.specs.declared.lines.TableReason.{TableReason}
+use Rattle.ojp_timetable.specs.declared.file.lines.TableReason.{TableReason}
 use Rattle.ojp_outside.specs.Seen.{StoreView}
 use Rattle.ojp_steps.specs.Lent.{Lent, before, after}
 use Rattle.ojp_steps.specs.Files.{IsFileOf, FailsToOpen, IsTooLong, IsRefusedFile, IsReadable}

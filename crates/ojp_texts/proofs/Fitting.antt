@@ -16,13 +16,13 @@ use Rattle.ojp_timetable.specs.Checks.{checked, first_failing, is_cut, is_double
 use Rattle.ojp_timetable.specs.SaidLines.{said_first, say, say_below}
 use Rattle.ojp_timetable.specs.TableText.{ArePassed, above_of, fault_at, fault_at_end, reason_of, with_line, with_said}
 use Rattle.ojp_timetable.specs.WellContents.{Passes}
-use Rattle.ojp_timetable.specs.declared.above.TheConstants.{BYTES}
-use Rattle.ojp_timetable.specs.declared.lines.Line.{Line}
-use Rattle.ojp_timetable.specs.declared.lines.Line.TheVariants as lines
-use Rattle.ojp_timetable.specs.declared.lines.Open.{Open}
-use Rattle.ojp_timetable.specs.declared.lines.Open.TheVariants.{Nothing}
-use Rattle.ojp_timetable.specs.declared.lines.TableReason.{TableReason}
-use Rattle.ojp_timetable.specs.declared.lines.TableReason.TheVariants.{ForeignStop, DoubledName, UnknownStop, UnknownService, FallingTimes, Limit, LineForm}
+use Rattle.ojp_timetable.specs.declared.file.above.TheConstants.{BYTES}
+use Rattle.ojp_timetable.specs.declared.file.lines.Line.{Line}
+use Rattle.ojp_timetable.specs.declared.file.lines.Line.TheVariants as lines
+use Rattle.ojp_timetable.specs.declared.file.lines.Open.{Open}
+use Rattle.ojp_timetable.specs.declared.file.lines.Open.TheVariants.{Nothing}
+use Rattle.ojp_timetable.specs.declared.file.lines.TableReason.{TableReason}
+use Rattle.ojp_timetable.specs.declared.file.lines.TableReason.TheVariants.{ForeignStop, DoubledName, UnknownStop, UnknownService, FallingTimes, Limit, LineForm}
 use Rattle.ojp_texts.specs.Spelled.{fields_spelled, spelled}
 use Rattle.ojp_texts.proofs.Reading.{reads_as}
 use Rattle.ojp_texts.proofs.Spelling.{EndsOnce, body_is, fields_back, joined_line}

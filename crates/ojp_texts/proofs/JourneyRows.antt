@@ -17,10 +17,10 @@ use Rattle.ojp_timetable.specs.Runs.{AreWhole, GoToEnd, IsOffset, NoneFalls, Not
 use Rattle.ojp_timetable.specs.Tables.{Journey, Place, Service}
 use Rattle.ojp_timetable.specs.WellContents.{GoesOnFrom, Passes}
 use Rattle.ojp_timetable.specs.declared.calls.Call.{Call}
-use Rattle.ojp_timetable.specs.declared.lines.Line.{Line}
-use Rattle.ojp_timetable.specs.declared.lines.Line.TheVariants as lines
-use Rattle.ojp_timetable.specs.declared.lines.Open.{Open}
-use Rattle.ojp_timetable.specs.declared.lines.Open.TheVariants.{Nothing, Begun, Since}
+use Rattle.ojp_timetable.specs.declared.file.lines.Line.{Line}
+use Rattle.ojp_timetable.specs.declared.file.lines.Line.TheVariants as lines
+use Rattle.ojp_timetable.specs.declared.file.lines.Open.{Open}
+use Rattle.ojp_timetable.specs.declared.file.lines.Open.TheVariants.{Nothing, Begun, Since}
 use Rattle.ojp_timetable.proofs.TextFacts.{is_differ, is_same, same_itself}
 use Rattle.ojp_texts.specs.Spelled.{HaveOwn, journey_lines, label_at, time_text}
 use Rattle.ojp_texts.proofs.PlaceRows.{declares}

@@ -10,9 +10,9 @@ use Rattle.ojp_timetable.specs.Said.{Said, said}
 use Rattle.ojp_timetable.specs.Checks.{checked, checks, first_failing, is_doubled, is_falling, is_foreign, is_full, is_long, lacks_service, lacks_stop, read_line, verdict}
 use Rattle.ojp_timetable.specs.SaidLines.{said_first, say, say_below}
 use Rattle.ojp_timetable.specs.TableText.{above_of, with_line, with_said}
-use Rattle.ojp_timetable.specs.declared.lines.Line.{Line}
-use Rattle.ojp_timetable.specs.declared.lines.TableReason.{TableReason}
-use Rattle.ojp_timetable.specs.declared.lines.TableReason.TheVariants.{ForeignStop, DoubledName, UnknownStop, UnknownService, FallingTimes, Limit}
+use Rattle.ojp_timetable.specs.declared.file.lines.Line.{Line}
+use Rattle.ojp_timetable.specs.declared.file.lines.TableReason.{TableReason}
+use Rattle.ojp_timetable.specs.declared.file.lines.TableReason.TheVariants.{ForeignStop, DoubledName, UnknownStop, UnknownService, FallingTimes, Limit}
 
 -- the contents are those above with what each line adds
 contents_from : (above : Above) (texts : List Text) → (fold with_line above texts).contents ≡ fold grown above.contents (say_below above texts)

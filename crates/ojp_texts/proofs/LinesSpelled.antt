@@ -21,13 +21,13 @@ use Rattle.ojp_timetable.specs.Lines.{Above, after_line, no_lines}
 use Rattle.ojp_timetable.specs.Said.{Said, call_fields, call_said, day_of, entry_fields, entry_said, formed, header_said, is_closed, is_dash, is_mark, is_offset, is_place, journey_fields, marks_of, may_call, neighbour_fields, offset, place_fields, region_said, said, service_days, service_fields, valued, word_fields, word_of, zone_said, zoned}
 use Rattle.ojp_timetable.specs.SaidLines.{said_first, say, say_below}
 use Rattle.ojp_timetable.specs.TableText.{above_of, fault_at, fault_at_end, lines_of, reason_of, with_line, with_said}
-use Rattle.ojp_timetable.specs.declared.lines.Line.{Line}
-use Rattle.ojp_timetable.specs.declared.lines.Line.TheVariants as lines
-use Rattle.ojp_timetable.specs.declared.lines.Open.{Open}
-use Rattle.ojp_timetable.specs.declared.lines.TableReason.{TableReason}
-use Rattle.ojp_timetable.specs.declared.lines.TableReason.TheVariants.{LineForm, Value}
-use Rattle.ojp_timetable.specs.declared.words.Word.{Word}
-use Rattle.ojp_timetable.specs.declared.words.Word.TheVariants as words
+use Rattle.ojp_timetable.specs.declared.file.lines.Line.{Line}
+use Rattle.ojp_timetable.specs.declared.file.lines.Line.TheVariants as lines
+use Rattle.ojp_timetable.specs.declared.file.lines.Open.{Open}
+use Rattle.ojp_timetable.specs.declared.file.lines.TableReason.{TableReason}
+use Rattle.ojp_timetable.specs.declared.file.lines.TableReason.TheVariants.{LineForm, Value}
+use Rattle.ojp_timetable.specs.declared.file.words.Word.{Word}
+use Rattle.ojp_timetable.specs.declared.file.words.Word.TheVariants as words
 use Rattle.ojp_timetable.proofs.DayFacts.{days_are_spelled}
 use Rattle.ojp_timetable.proofs.TextFacts.{same_is}
 use Rattle.ojp_texts.specs.Spelled.{LinesAreSpelled, fields_spelled, marks_text, place_word, time_text}

@@ -21,10 +21,10 @@ use Rattle.ojp_timetable.specs.Points.{IsPointOf, neighbour_lt, point_lt}
 use Rattle.ojp_timetable.specs.Runs.{AreDays}
 use Rattle.ojp_timetable.specs.Tables.{Journey, Place, Service}
 use Rattle.ojp_timetable.specs.WellContents.{Passes}
-use Rattle.ojp_timetable.specs.declared.lines.Line.{Line}
-use Rattle.ojp_timetable.specs.declared.lines.Line.TheVariants as lines
-use Rattle.ojp_timetable.specs.declared.lines.Open.{Open}
-use Rattle.ojp_timetable.specs.declared.lines.Open.TheVariants.{Nothing}
+use Rattle.ojp_timetable.specs.declared.file.lines.Line.{Line}
+use Rattle.ojp_timetable.specs.declared.file.lines.Line.TheVariants as lines
+use Rattle.ojp_timetable.specs.declared.file.lines.Open.{Open}
+use Rattle.ojp_timetable.specs.declared.file.lines.Open.TheVariants.{Nothing}
 use Rattle.ojp_timetable.proofs.ListFacts.{place_is}
 use Rattle.ojp_timetable.proofs.Orders.{not_before_itself}
 use Rattle.ojp_timetable.proofs.PointOrder.{lt_carried}

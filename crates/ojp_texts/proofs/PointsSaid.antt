@@ -12,8 +12,8 @@ use Rattle.ojp_timetable.specs.Contents.{Contents, has_place, neighbours_at, poi
 use Rattle.ojp_timetable.specs.Lines.{grown, new_point, no_lines}
 use Rattle.ojp_timetable.specs.SaidLines.{say}
 use Rattle.ojp_timetable.specs.TableText.{above_of, lines_of}
-use Rattle.ojp_timetable.specs.declared.lines.Line.{Line}
-use Rattle.ojp_timetable.specs.declared.lines.Line.TheVariants as lines
+use Rattle.ojp_timetable.specs.declared.file.lines.Line.{Line}
+use Rattle.ojp_timetable.specs.declared.file.lines.Line.TheVariants as lines
 use Rattle.ojp_timetable.proofs.AmongFacts.{among_insert, among_insert_or, among_inserted}
 use Rattle.ojp_timetable.proofs.PointsKept.{points_of_lines}
 use Rattle.ojp_timetable.proofs.TextFacts.{same_is, same_itself}

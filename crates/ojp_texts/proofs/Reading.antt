@@ -18,14 +18,14 @@ use Rattle.ojp_timetable.specs.Runs.{AreDays, IsOffset}
 use Rattle.ojp_timetable.specs.Said.{Said, are_marks, day_of, entry_fields, entry_said, formed, is_closed, is_dash, is_mark, is_offset, is_place, marks_of, may_call, offset, place_fields, place_said, said, service_days, valued, word_fields, word_of}
 use Rattle.ojp_timetable.specs.WellContents.{GoesOnFrom}
 use Rattle.ojp_timetable.specs.declared.calls.Call.{Call}
-use Rattle.ojp_timetable.specs.declared.lines.Dates.{Dates}
-use Rattle.ojp_timetable.specs.declared.lines.Line.{Line}
-use Rattle.ojp_timetable.specs.declared.lines.Line.TheVariants as lines
-use Rattle.ojp_timetable.specs.declared.lines.Open.{Open}
-use Rattle.ojp_timetable.specs.declared.lines.Open.TheVariants.{Nothing, Begun, Since}
-use Rattle.ojp_timetable.specs.declared.lines.TableReason.TheVariants.{Value}
-use Rattle.ojp_timetable.specs.declared.words.Word.{Word}
-use Rattle.ojp_timetable.specs.declared.words.Word.TheVariants as words
+use Rattle.ojp_timetable.specs.declared.file.lines.Dates.{Dates}
+use Rattle.ojp_timetable.specs.declared.file.lines.Line.{Line}
+use Rattle.ojp_timetable.specs.declared.file.lines.Line.TheVariants as lines
+use Rattle.ojp_timetable.specs.declared.file.lines.Open.{Open}
+use Rattle.ojp_timetable.specs.declared.file.lines.Open.TheVariants.{Nothing, Begun, Since}
+use Rattle.ojp_timetable.specs.declared.file.lines.TableReason.TheVariants.{Value}
+use Rattle.ojp_timetable.specs.declared.file.words.Word.{Word}
+use Rattle.ojp_timetable.specs.declared.file.words.Word.TheVariants as words
 use Rattle.ojp_timetable.proofs.DayFacts.{days_are_spelled, one_reading}
 use Rattle.ojp_timetable.proofs.TextFacts.{is_differ}
 use Rattle.ojp_texts.specs.Spelled.{fields_spelled, marks_text, place_word, spelled, time_text}

@@ -21,10 +21,10 @@ use Rattle.ojp_timetable.specs.Runs.{IsWell}
 use Rattle.ojp_timetable.specs.Said.{Said, is_closed}
 use Rattle.ojp_timetable.specs.TableText.{IsText, above_of, fault_at, lines_of, with_line, with_said}
 use Rattle.ojp_timetable.specs.Tables.{Journey, Place, Service, Timetable}
-use Rattle.ojp_timetable.specs.declared.lines.Line.{Line}
-use Rattle.ojp_timetable.specs.declared.lines.Line.TheVariants as lines
+use Rattle.ojp_timetable.specs.declared.file.lines.Line.{Line}
+use Rattle.ojp_timetable.specs.declared.file.lines.Line.TheVariants as lines
 use Rattle.ojp_timetable.specs.declared.calls.Call.{Call}
-use Rattle.ojp_timetable.specs.declared.lines.TableReason.TheVariants.{LineForm}
+use Rattle.ojp_timetable.specs.declared.file.lines.TableReason.TheVariants.{LineForm}
 use Rattle.ojp_timetable.proofs.AmongFacts.{each_push}
 use Rattle.ojp_timetable.proofs.ListFacts.{each_fails, each_insert}
 use Rattle.ojp_timetable.proofs.PassFacts.{fault_at-end}

@@ -17,7 +17,7 @@ use Rattle.ojp_timetable.specs.SaidLines.{say}
 use Rattle.ojp_timetable.specs.TableText.{ArePassed, IsText, above_of, lines_of}
 use Rattle.ojp_timetable.specs.Tables.{Journey, Place, Timetable}
 use Rattle.ojp_timetable.specs.declared.calls.Call.{Call}
-use Rattle.ojp_timetable.specs.declared.lines.Open.TheVariants.{Nothing}
+use Rattle.ojp_timetable.specs.declared.file.lines.Open.TheVariants.{Nothing}
 use Rattle.ojp_timetable.specs.Said.{is_closed}
 use Rattle.ojp_timetable.proofs.TextFacts.{is_same}
 use Rattle.ojp_texts.specs.Spelled.{CanBeSpelled, HaveOwn, IsNamed, SpelledIsText, entries, journey_lines, lines_spelled, neighbour_lines, place_line, service_line, spelled}

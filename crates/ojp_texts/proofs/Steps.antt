@@ -8,8 +8,8 @@ use Rattle.ojp_values.specs.Texts.{Text, same}
 use Rattle.ojp_values.proofs.ListFacts.{each_at}
 use Rattle.ojp_timetable.specs.Contents.{Contents}
 use Rattle.ojp_timetable.specs.Lines.{grown, left_open}
-use Rattle.ojp_timetable.specs.declared.lines.Line.{Line}
-use Rattle.ojp_timetable.specs.declared.lines.Open.{Open}
+use Rattle.ojp_timetable.specs.declared.file.lines.Line.{Line}
+use Rattle.ojp_timetable.specs.declared.file.lines.Open.{Open}
 use Rattle.ojp_timetable.proofs.TextFacts.{is_differ}
 use Rattle.ojp_texts.specs.Spelled.{HaveOwn}
 use Rattle.ojp_texts.proofs.Fitting.{AllFit, Fits, all_append, left_after, left_append}

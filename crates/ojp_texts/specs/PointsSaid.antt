@@ -8,8 +8,8 @@ use Rattle.ojp_timetable.specs.Tables.{Timetable}
 use Rattle.ojp_timetable.specs.Checks.{has_neighbour}
 use Rattle.ojp_timetable.specs.SaidLines.{say}
 use Rattle.ojp_timetable.specs.TableText.{IsText, above_of, lines_of}
-use Rattle.ojp_timetable.specs.declared.lines.Line.{Line}
-use Rattle.ojp_timetable.specs.declared.lines.Line.TheVariants as lines
+use Rattle.ojp_timetable.specs.declared.file.lines.Line.{Line}
+use Rattle.ojp_timetable.specs.declared.file.lines.Line.TheVariants as lines
 
 -- one of the points has that reference and that change time
 abbrev pub HasPoint : List Point → Text → ℕ → Type 0

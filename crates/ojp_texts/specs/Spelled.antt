@@ -16,10 +16,10 @@ use Rattle.ojp_timetable.specs.SaidLines.{say}
 use Rattle.ojp_timetable.specs.TableText.{IsText, lines_of}
 use Rattle.ojp_timetable.specs.Tables.{Journey, Place, Service, Timetable}
 use Rattle.ojp_timetable.specs.Views.{dates_of}
-use Rattle.ojp_timetable.specs.declared.above.TheConstants.{BYTES}
+use Rattle.ojp_timetable.specs.declared.file.above.TheConstants.{BYTES}
 use Rattle.ojp_timetable.specs.declared.calls.Call.{Call}
-use Rattle.ojp_timetable.specs.declared.lines.Line.{Line}
-use Rattle.ojp_timetable.specs.declared.lines.Line.TheVariants as lines
+use Rattle.ojp_timetable.specs.declared.file.lines.Line.{Line}
+use Rattle.ojp_timetable.specs.declared.file.lines.Line.TheVariants as lines
 
 -- ---- how a line is spelled
 

@@ -11,12 +11,12 @@ use Rattle.ojp_timetable.specs.Lines.{Above}
 use Rattle.ojp_timetable.specs.Tables.{Call}
 use Rattle.ojp_timetable.specs.WellContents.{GoesOnFrom}
 use Rattle.ojp_timetable.specs.declared.kept.FoundCall.{FoundCall}
-use Rattle.ojp_timetable.specs.declared.lines.Line.TheVariants as Line
-use Rattle.ojp_timetable.specs.declared.lines.TableReason.{TableReason}
-use Rattle.ojp_timetable.specs.declared.words.Word.{Word}
-use Rattle.ojp_timetable.specs.declared.words.Word.TheVariants as words
-use Rattle.ojp_timetable.specs.declared.lines.Open.{Open}
-use Rattle.ojp_timetable.specs.declared.lines.Open.TheVariants.{Nothing, Begun, Since}
+use Rattle.ojp_timetable.specs.declared.file.lines.Line.TheVariants as Line
+use Rattle.ojp_timetable.specs.declared.file.lines.TableReason.{TableReason}
+use Rattle.ojp_timetable.specs.declared.file.words.Word.{Word}
+use Rattle.ojp_timetable.specs.declared.file.words.Word.TheVariants as words
+use Rattle.ojp_timetable.specs.declared.file.lines.Open.{Open}
+use Rattle.ojp_timetable.specs.declared.file.lines.Open.TheVariants.{Nothing, Begun, Since}
 
 no_time : (b : Bool) (n : ℕ) → b ≡ true → cond b None (Some n) ≡ None
 no_time true n e = refl

@@ -9,9 +9,9 @@ use Rattle.ojp_values.specs.Texts.{Text}
 use Rattle.ojp_timetable.specs.Lines.{Above, no_lines}
 use Rattle.ojp_timetable.specs.Checks.{is_cut, read_line}
 use Rattle.ojp_timetable.specs.Refusals.{IsLineRefusal, IsRefusal, refusal_of}
-use Rattle.ojp_timetable.specs.declared.lines.TableReason.TheVariants.{LineForm}
-use Rattle.ojp_timetable.specs.declared.refusals.LineRefused.{LineRefused}
-use Rattle.ojp_timetable.specs.declared.refusals.LineRefused.TheVariants.{Reason, NoMemory}
+use Rattle.ojp_timetable.specs.declared.file.lines.TableReason.TheVariants.{LineForm}
+use Rattle.ojp_timetable.specs.declared.file.refusals.LineRefused.{LineRefused}
+use Rattle.ojp_timetable.specs.declared.file.refusals.LineRefused.TheVariants.{Reason, NoMemory}
 use Rattle.ojp_timetable.specs.TableText.{ArePassed, IsTextRefused, lines_of, above_of, fault_at, fault_at_end, reason_of, with_line, with_said}
 use Rattle.ojp_timetable.specs.Said.{Said}
 

@@ -19,13 +19,13 @@ use Rattle.ojp_timetable.specs.Points.{AreWellPoints, IsPointOf}
 use Rattle.ojp_timetable.specs.Said.{Said, call_fields, day_of, entry_fields, entry_said, formed, header_said, journey_fields, may_call, is_place, neighbour_fields, place_fields, region_said, said, service_days, service_fields, valued, word_fields, word_of, zone_said, zoned, is_closed, call_said}
 use Rattle.ojp_timetable.specs.Checks.{checked, first_failing, has_neighbour, is_doubled, is_foreign, is_long, is_falling, is_full, lacks_service, lacks_stop, read_line, verdict}
 use Rattle.ojp_timetable.specs.TableText.{above_of, with_line, with_said}
-use Rattle.ojp_timetable.specs.declared.lines.Line.{Line}
-use Rattle.ojp_timetable.specs.declared.lines.Line.TheVariants as lines
-use Rattle.ojp_timetable.specs.declared.lines.Open.{Open}
-use Rattle.ojp_timetable.specs.declared.lines.TableReason.{TableReason}
-use Rattle.ojp_timetable.specs.declared.lines.TableReason.TheVariants.{DoubledName, ForeignStop, LineForm, UnknownStop, UnknownService, FallingTimes, Limit, Value}
-use Rattle.ojp_timetable.specs.declared.words.Word.{Word}
-use Rattle.ojp_timetable.specs.declared.words.Word.TheVariants as words
+use Rattle.ojp_timetable.specs.declared.file.lines.Line.{Line}
+use Rattle.ojp_timetable.specs.declared.file.lines.Line.TheVariants as lines
+use Rattle.ojp_timetable.specs.declared.file.lines.Open.{Open}
+use Rattle.ojp_timetable.specs.declared.file.lines.TableReason.{TableReason}
+use Rattle.ojp_timetable.specs.declared.file.lines.TableReason.TheVariants.{DoubledName, ForeignStop, LineForm, UnknownStop, UnknownService, FallingTimes, Limit, Value}
+use Rattle.ojp_timetable.specs.declared.file.words.Word.{Word}
+use Rattle.ojp_timetable.specs.declared.file.words.Word.TheVariants as words
 use Rattle.ojp_timetable.proofs.AmongFacts.{among_last, among_left, any_false, or_false}
 use Rattle.ojp_timetable.proofs.ListFacts.{each_insert, each_map}
 use Rattle.ojp_timetable.proofs.PointLimits.{length-points_with, length-with_point, lt_told, new_bounded, number_between, points_bounded}

@@ -16,11 +16,11 @@ use Rattle.ojp_timetable.specs.Fields.{body}
 use Rattle.ojp_timetable.specs.Checks.{checked, checks, first_failing, is_doubled, is_falling, is_foreign, is_full, is_long, lacks_service, lacks_stop, read_line, verdict}
 use Rattle.ojp_timetable.specs.TableText.{above_of, lines_of, with_line, with_said}
 use Rattle.ojp_timetable.specs.SaidLines.{AboveIsAsSaid, TablesAreAsSaid, calls_behind, journeys_said, number_among, places_said, said_first, say, say_below, services_said}
-use Rattle.ojp_timetable.specs.declared.lines.Dates.{Dates}
-use Rattle.ojp_timetable.specs.declared.lines.Line.{Line}
-use Rattle.ojp_timetable.specs.declared.lines.Line.TheVariants as lines
-use Rattle.ojp_timetable.specs.declared.lines.TableReason.{TableReason}
-use Rattle.ojp_timetable.specs.declared.lines.TableReason.TheVariants.{ForeignStop, DoubledName, UnknownStop, UnknownService, FallingTimes, Limit}
+use Rattle.ojp_timetable.specs.declared.file.lines.Dates.{Dates}
+use Rattle.ojp_timetable.specs.declared.file.lines.Line.{Line}
+use Rattle.ojp_timetable.specs.declared.file.lines.Line.TheVariants as lines
+use Rattle.ojp_timetable.specs.declared.file.lines.TableReason.{TableReason}
+use Rattle.ojp_timetable.specs.declared.file.lines.TableReason.TheVariants.{ForeignStop, DoubledName, UnknownStop, UnknownService, FallingTimes, Limit}
 use Rattle.ojp_timetable.proofs.AmongFacts.{any_true}
 use Rattle.ojp_timetable.proofs.TextFacts.{same_is, same_itself}
 

@@ -11,7 +11,7 @@ use Rattle.ojp_values.specs.Texts.{Text, same, home, is_exchange, code_part}
 use Rattle.ojp_values.specs.declared.moments.TheConstants.{FIRST_DAY, LAST_DAY}
 use Rattle.ojp_values.specs.declared.trips.Point.{Point}
 use Rattle.ojp_values.specs.declared.trips.Neighbour.{Neighbour}
-use Rattle.ojp_timetable.specs.declared.above.TheConstants.{BYTES}
+use Rattle.ojp_timetable.specs.declared.file.above.TheConstants.{BYTES}
 use Rattle.ojp_timetable.specs.Tables.{Call, Journey, Place, Service}
 use Rattle.ojp_timetable.specs.Points.{AreWellPoints}
 use Rattle.ojp_timetable.specs.Runs.{AreDays, AreWhole, GoToEnd, HaveOwnLabels, IsOffset, IsWell, IsWellCall, NoneFalls, NotBefore, calls_of, latest}
@@ -20,11 +20,11 @@ use Rattle.ojp_timetable.specs.Lines.{Above, after_line, grown, IsWellLine, left
 use Rattle.ojp_timetable.specs.Checks.{departed, falls_from, is_before, is_doubled, is_falling, is_foreign, is_full, is_stop_elsewhere, lacks_service, lacks_stop, later_of}
 use Rattle.ojp_timetable.specs.WellContents.{AreBegun, AreWholeBut, EndsOpen, GoesOnFrom, HasCome, IsWellAbove, IsWellContents, IsWellSoFar, MayStand, Passes, StandOpen, last_time}
 use Rattle.ojp_timetable.specs.Said.{is_closed}
-use Rattle.ojp_timetable.specs.declared.lines.Line.{Line}
-use Rattle.ojp_timetable.specs.declared.lines.Line.TheVariants as lines
-use Rattle.ojp_timetable.specs.declared.lines.Dates.{Dates}
-use Rattle.ojp_timetable.specs.declared.lines.Open.{Open}
-use Rattle.ojp_timetable.specs.declared.lines.Open.TheVariants.{Nothing, Begun, Since}
+use Rattle.ojp_timetable.specs.declared.file.lines.Line.{Line}
+use Rattle.ojp_timetable.specs.declared.file.lines.Line.TheVariants as lines
+use Rattle.ojp_timetable.specs.declared.file.lines.Dates.{Dates}
+use Rattle.ojp_timetable.specs.declared.file.lines.Open.{Open}
+use Rattle.ojp_timetable.specs.declared.file.lines.Open.TheVariants.{Nothing, Begun, Since}
 use Rattle.ojp_timetable.proofs.AmongFacts.{among_insert, among_insert_or, among_inserted, among_last, among_left, among_push, any_false, any_true, each_push, or_false, place_within}
 use Rattle.ojp_timetable.proofs.TextFacts.{is_same, same_is}
 

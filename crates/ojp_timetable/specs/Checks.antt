@@ -8,13 +8,13 @@ use Rattle.ojp_timetable.specs.Contents.{Contents, has_place, has_service, has_j
 use Rattle.ojp_timetable.specs.Lines.{Above}
 use Rattle.ojp_timetable.specs.Said.{Said, said, is_closed}
 use Rattle.ojp_timetable.specs.Fields.{body}
-use Rattle.ojp_timetable.specs.declared.above.TheConstants.{BYTES}
-use Rattle.ojp_timetable.specs.declared.lines.Line.{Line}
-use Rattle.ojp_timetable.specs.declared.lines.Line.TheVariants.{Place, Neighbour as NeighbourLine, Service, Journey, Call as CallLine}
-use Rattle.ojp_timetable.specs.declared.lines.Open.{Open}
-use Rattle.ojp_timetable.specs.declared.lines.Open.TheVariants.{Nothing, Begun, Since}
-use Rattle.ojp_timetable.specs.declared.lines.TableReason.{TableReason}
-use Rattle.ojp_timetable.specs.declared.lines.TableReason.TheVariants.{ForeignStop, DoubledName, UnknownStop, UnknownService, FallingTimes, Limit}
+use Rattle.ojp_timetable.specs.declared.file.above.TheConstants.{BYTES}
+use Rattle.ojp_timetable.specs.declared.file.lines.Line.{Line}
+use Rattle.ojp_timetable.specs.declared.file.lines.Line.TheVariants.{Place, Neighbour as NeighbourLine, Service, Journey, Call as CallLine}
+use Rattle.ojp_timetable.specs.declared.file.lines.Open.{Open}
+use Rattle.ojp_timetable.specs.declared.file.lines.Open.TheVariants.{Nothing, Begun, Since}
+use Rattle.ojp_timetable.specs.declared.file.lines.TableReason.{TableReason}
+use Rattle.ojp_timetable.specs.declared.file.lines.TableReason.TheVariants.{ForeignStop, DoubledName, UnknownStop, UnknownService, FallingTimes, Limit}
 
 -- an own stop of another region
 abbrev pub is_stop_elsewhere : Text → Text → Bool

@@ -6,7 +6,7 @@ use Rattle.ojp_timetable.specs.declared.kept.PlaceFacts.{PlaceFacts}
 use Rattle.ojp_timetable.specs.declared.kept.FoundCall.{FoundCall}
 use Rattle.ojp_timetable.specs.declared.kept.KeptCall.{KeptCall}
 use Rattle.ojp_timetable.specs.declared.kept.Head.{Head}
-use Rattle.ojp_timetable.specs.declared.lines.Dates.{Dates}
+use Rattle.ojp_timetable.specs.declared.file.lines.Dates.{Dates}
 
 abbrev pub region_kept : Option Text → Text
 region_kept None = []

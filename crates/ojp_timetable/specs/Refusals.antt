@@ -4,10 +4,10 @@ use Rattle.ojp_values.specs.Texts.{Text}
 use Rattle.ojp_timetable.specs.Lines.{Above, no_lines}
 use Rattle.ojp_timetable.specs.Said.{Said}
 use Rattle.ojp_timetable.specs.TableText.{IsTextRefused, reason_of}
-use Rattle.ojp_timetable.specs.declared.refusals.LineRefused.{LineRefused}
-use Rattle.ojp_timetable.specs.declared.refusals.LineRefused.TheVariants.{Reason, NoMemory as LineNoMemory}
-use Rattle.ojp_timetable.specs.declared.refusals.TableRefused.{TableRefused}
-use Rattle.ojp_timetable.specs.declared.refusals.TableRefused.TheVariants.{At, NoMemory}
+use Rattle.ojp_timetable.specs.declared.file.refusals.LineRefused.{LineRefused}
+use Rattle.ojp_timetable.specs.declared.file.refusals.LineRefused.TheVariants.{Reason, NoMemory as LineNoMemory}
+use Rattle.ojp_timetable.specs.declared.file.refusals.TableRefused.{TableRefused}
+use Rattle.ojp_timetable.specs.declared.file.refusals.TableRefused.TheVariants.{At, NoMemory}
 
 -- the reason is that of the line; want of memory may come at any line
 abbrev pub IsLineRefusal : Said → LineRefused → Type 0

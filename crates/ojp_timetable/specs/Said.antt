@@ -10,14 +10,14 @@ use Rattle.ojp_zones.specs.declared.zone.Zone.{Zone as ZoneValue}
 use Rattle.ojp_timetable.specs.Fields.{fields_of, joined}
 use Rattle.ojp_timetable.specs.Tables.{Call}
 use Rattle.ojp_timetable.specs.declared.kept.FoundCall.{FoundCall}
-use Rattle.ojp_timetable.specs.declared.lines.Line.{Line}
-use Rattle.ojp_timetable.specs.declared.lines.Line.TheVariants as lines
-use Rattle.ojp_timetable.specs.declared.lines.Open.{Open}
-use Rattle.ojp_timetable.specs.declared.lines.Open.TheVariants.{Nothing, Begun, Since}
-use Rattle.ojp_timetable.specs.declared.lines.TableReason.{TableReason}
-use Rattle.ojp_timetable.specs.declared.lines.TableReason.TheVariants.{LineForm, Value, BadZone}
-use Rattle.ojp_timetable.specs.declared.words.Word.{Word}
-use Rattle.ojp_timetable.specs.declared.words.Word.TheVariants as words
+use Rattle.ojp_timetable.specs.declared.file.lines.Line.{Line}
+use Rattle.ojp_timetable.specs.declared.file.lines.Line.TheVariants as lines
+use Rattle.ojp_timetable.specs.declared.file.lines.Open.{Open}
+use Rattle.ojp_timetable.specs.declared.file.lines.Open.TheVariants.{Nothing, Begun, Since}
+use Rattle.ojp_timetable.specs.declared.file.lines.TableReason.{TableReason}
+use Rattle.ojp_timetable.specs.declared.file.lines.TableReason.TheVariants.{LineForm, Value, BadZone}
+use Rattle.ojp_timetable.specs.declared.file.words.Word.{Word}
+use Rattle.ojp_timetable.specs.declared.file.words.Word.TheVariants as words
 
 -- what a line says, or the first of its form, its values and its zone that is wrong
 abbrev pub Said : Type 0

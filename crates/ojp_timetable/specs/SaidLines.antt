@@ -8,9 +8,9 @@ use Rattle.ojp_timetable.specs.Lines.{Above, no_lines}
 use Rattle.ojp_timetable.specs.Said.{Said}
 use Rattle.ojp_timetable.specs.Checks.{read_line}
 use Rattle.ojp_timetable.specs.TableText.{IsText, above_of, lines_of, with_line}
-use Rattle.ojp_timetable.specs.declared.lines.Dates.{Dates}
-use Rattle.ojp_timetable.specs.declared.lines.Line.{Line}
-use Rattle.ojp_timetable.specs.declared.lines.Line.TheVariants as lines
+use Rattle.ojp_timetable.specs.declared.file.lines.Dates.{Dates}
+use Rattle.ojp_timetable.specs.declared.file.lines.Line.{Line}
+use Rattle.ojp_timetable.specs.declared.file.lines.Line.TheVariants as lines
 
 -- a line that fails a check says nothing
 abbrev pub said_first : Said → List Line → List Line

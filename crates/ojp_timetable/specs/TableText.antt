@@ -9,8 +9,8 @@ use Rattle.ojp_timetable.specs.Contents.{Contents, timetable_of}
 use Rattle.ojp_timetable.specs.Lines.{Above, no_lines, after_line}
 use Rattle.ojp_timetable.specs.Said.{Said}
 use Rattle.ojp_timetable.specs.Checks.{read_line, is_cut}
-use Rattle.ojp_timetable.specs.declared.lines.TableReason.{TableReason}
-use Rattle.ojp_timetable.specs.declared.lines.TableReason.TheVariants.{LineForm}
+use Rattle.ojp_timetable.specs.declared.file.lines.TableReason.{TableReason}
+use Rattle.ojp_timetable.specs.declared.file.lines.TableReason.TheVariants.{LineForm}
 
 -- the lines: each ends with its line feed, which the last may lack
 unfoldable pub lines_of : Text → List Text

@@ -8,7 +8,7 @@ use Rattle.ojp_timetable.specs.Tables.{Timetable}
 use Rattle.ojp_timetable.specs.Points.{AreWellPoints}
 use Rattle.ojp_timetable.specs.Said.{day_of}
 use Rattle.ojp_timetable.specs.TableText.{IsTextRefused, IsText}
-use Rattle.ojp_timetable.specs.declared.lines.TableReason.{TableReason}
+use Rattle.ojp_timetable.specs.declared.file.lines.TableReason.{TableReason}
 
 -- a file is refused at one line and for one reason
 abbrev pub RefusalIsOne : Type 0

@@ -2,9 +2,9 @@
 use Rattle.std.specs.Prelude.{ℕ, List, [], length, codes, option_map, unwrap_or, slice_get}
 use Rattle.ojp_values.specs.Texts.{Text}
 use Rattle.ojp_timetable.specs.Tables.{Call, Journey, Place, Service}
-use Rattle.ojp_timetable.specs.declared.lines.Dates.{Dates}
-use Rattle.ojp_timetable.specs.declared.lines.TableReason.{TableReason}
-use Rattle.ojp_timetable.specs.declared.lines.TableReason.TheVariants.{LineForm, Value, BadZone, ForeignStop, DoubledName, UnknownStop, UnknownService, FallingTimes, Limit}
+use Rattle.ojp_timetable.specs.declared.file.lines.Dates.{Dates}
+use Rattle.ojp_timetable.specs.declared.file.lines.TableReason.{TableReason}
+use Rattle.ojp_timetable.specs.declared.file.lines.TableReason.TheVariants.{LineForm, Value, BadZone, ForeignStop, DoubledName, UnknownStop, UnknownService, FallingTimes, Limit}
 use Rattle.ojp_timetable.specs.declared.kept.JourneyView.{JourneyView}
 use Rattle.ojp_timetable.specs.declared.kept.PlaceView.{PlaceView}
 

@@ -12,11 +12,11 @@ use Rattle.ojp_zones.specs.Noons.{AreNear, IsZone}
 use Rattle.ojp_timetable.specs.Lines.{Above}
 use Rattle.ojp_timetable.specs.Checks.{is_doubled, is_falling, is_foreign, is_full, lacks_service, lacks_stop}
 use Rattle.ojp_timetable.specs.Said.{is_closed}
-use Rattle.ojp_timetable.specs.declared.above.TheConstants.{BYTES}
-use Rattle.ojp_timetable.specs.declared.lines.Line.{Line}
-use Rattle.ojp_timetable.specs.declared.lines.Line.TheVariants.{Header, Region, Zone, Call as CallLine}
-use Rattle.ojp_timetable.specs.declared.lines.Open.{Open}
-use Rattle.ojp_timetable.specs.declared.lines.Open.TheVariants.{Nothing, Begun, Since}
+use Rattle.ojp_timetable.specs.declared.file.above.TheConstants.{BYTES}
+use Rattle.ojp_timetable.specs.declared.file.lines.Line.{Line}
+use Rattle.ojp_timetable.specs.declared.file.lines.Line.TheVariants.{Header, Region, Zone, Call as CallLine}
+use Rattle.ojp_timetable.specs.declared.file.lines.Open.{Open}
+use Rattle.ojp_timetable.specs.declared.file.lines.Open.TheVariants.{Nothing, Begun, Since}
 
 -- the journeys are of services that stand above and have labels of their own, and their times do not fall; their
 -- calls are at places that stand above; no two places have one reference; the exchange points are those among the

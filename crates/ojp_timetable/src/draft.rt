@@ -5,9 +5,9 @@ ghost use Rattle.ojp_values.specs.declared.trips.Point.{Point as PointValue};
 ghost use Rattle.ojp_values.specs.declared.trips.Neighbour.{Neighbour as NeighbourValue};
 
 use crate::calls::Call;
-use crate::checks::{CALLS, JOURNEYS, PLACES};
+use crate::file::checks::{CALLS, JOURNEYS, PLACES};
 use crate::kept::{FoundCall, Head, JourneyView, PlaceFacts, PlaceView};
-use crate::lines::{Dates, Line};
+use crate::file::lines::{Dates, Line};
 use crate::point_lists::{insert_neighbour_at, insert_point};
 use crate::stops::Stops;
 use indexmap::IndexMap;

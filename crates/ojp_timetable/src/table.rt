@@ -1,13 +1,13 @@
 //! A timetable that was read.
 ghost use Rattle.std.specs.Prelude.{◌≡◌, ◌≤◌, ◌<◌, length, slice_get, position, bytes_eq, option_map, ◌↔◌, IsTrue, IfOk, IfErr, Some};
 
-use crate::above::Above;
+use crate::file::above::Above;
 use crate::calls::Call;
 use crate::draft::Draft;
 use crate::kept::{JourneyView, PlaceView};
-use crate::lines::Dates;
-use crate::reading::read_lines;
-use crate::refusals::TableRefused;
+use crate::file::lines::Dates;
+use crate::file::reading::read_lines;
+use crate::file::refusals::TableRefused;
 use ojp_values::{Code, Day, Instant, Label, Name, Point, StopRef};
 use ojp_zones::noons::Noons;
 use std::alloc::Global;

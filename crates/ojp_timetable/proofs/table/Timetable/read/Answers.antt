@@ -4,7 +4,7 @@ use Rattle.ojp_timetable.specs.Lines.{Above}
 use Rattle.ojp_timetable.specs.Points.{AreWellPoints}
 use Rattle.ojp_timetable.specs.TableText.{lines_of}
 use Rattle.ojp_timetable.specs.WellContents.{AreWholeBut, IsWellContents}
-use Rattle.ojp_timetable.specs.declared.lines.Open.TheVariants.{Nothing}
+use Rattle.ojp_timetable.specs.declared.file.lines.Open.TheVariants.{Nothing}
 use Rattle.ojp_timetable.proofs.WellFacts.{closed_whole}
 use Rattle.ojp_timetable.proofs.PointsKept.{points_of_lines}
 use Rattle.ojp_timetable.proofs.table.Timetable.read.Goals as goal
