@@ -1,15 +1,13 @@
 //! Reading the lines of a file of regions.
 
-ghost use Rattle.std.specs.Prelude.{◌≡◌, ◌<◌, ◌∷◌, length, IfOk, IfErr, OnOk, OnErr};
+ghost use Rattle.std.specs.Prelude.{◌≡◌, IfOk, IfErr, OnOk, OnErr};
 ghost use Rattle.std.specs.List.{list_any};
 ghost use Rattle.ojp_values.specs.Texts.{same};
-ghost use Rattle.ojp_timetable.specs.TableText.{lines_of};
 ghost use Rattle.ojp_regions.specs.Lines.{AddsLine, IsLineRefusal};
 ghost use Rattle.ojp_regions.specs.RegionsText.{IsRefusal, IsText, refusal_of};
 
 use crate::line::{RegionLine, RegionLineRefused, read_line};
-use memchr::memchr;
-use ojp_timetable::TableReason;
+use ojp_timetable::{TableReason, split_line};
 use ojp_values::{Code, List};
 use std::alloc::Global;
 
@@ -24,18 +22,6 @@ pub enum RegionsRefused {
     At { line: u64, reason: TableReason },
     /// Memory ran out.
     NoMemory,
-}
-
-/// The first line with its line feed, and the text behind it.
-fn split_line(text: &[u8]) -> (&[u8], &[u8])
-    requires { 0 < length text.now }
-    ensures lines { lines_of text.now ≡ result.0.now ∷ lines_of result.1.now }
-    ensures shorter { length result.1.now < length text.now }
-{
-    match memchr(b'\n', text) {
-        Some(end) => text.split_at(end + 1),
-        None => (text, b""),
-    }
 }
 
 /// Whether one of the regions has the code.

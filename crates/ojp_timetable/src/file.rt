@@ -1,15 +1,12 @@
 //! The file of a timetable: its lines, the checks of each, and reading them from first to last.
 
 pub mod above;
-mod checks;
+pub(crate) mod checks;
 mod fields;
-mod lines;
+pub(crate) mod lines;
 mod read_words;
-pub mod reading;
+pub(crate) mod reading;
 mod reason_words;
-mod refusals;
+pub(crate) mod refusals;
 mod said;
 pub mod words;
-
-pub use lines::TableReason;
-pub use refusals::TableRefused;

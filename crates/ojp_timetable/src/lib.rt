@@ -12,6 +12,8 @@ pub mod stops;
 mod table;
 
 pub use calls::Call;
-pub use file::{TableReason, TableRefused};
-pub use kept::{JourneyView, PlaceView};
+pub use file::lines::TableReason;
+pub use file::reading::split_line;
+pub use file::refusals::TableRefused;
+pub use kept::{FoundCall, JourneyView, PlaceView};
 pub use table::Timetable;

@@ -11,8 +11,8 @@ use crate::file::refusals::{LineRefused, TableRefused};
 use memchr::memchr;
 use std::alloc::Global;
 
-// The first line with its line feed, and the text behind it.
-fn split_line(text: &[u8]) -> (&[u8], &[u8])
+/// The first line of a text with its line feed, and the text behind it.
+pub fn split_line(text: &[u8]) -> (&[u8], &[u8])
     requires { 0 < length text.now }
     ensures lines { lines_of text.now ≡ result.0.now ∷ lines_of result.1.now }
     ensures shorter { length result.1.now < length text.now }
