@@ -5,7 +5,7 @@ ghost use Rattle.ojp_timetable.specs.Runs.{IsWell};
 ghost use Rattle.ojp_scan.specs.Networks.{place_number};
 ghost use Rattle.ojp_scan.specs.Views.{IsJourneyAt, IsInJourney, IsCallOf, IsPlaceOf};
 
-use ojp_timetable::{Call, JourneyView, Timetable};
+use ojp_timetable::{Call, FoundCall, JourneyView, Timetable};
 use ojp_values::StopRef;
 
 /// The journey of that number.
@@ -22,6 +22,15 @@ pub fn call_at(table: &Timetable, i: usize, position: usize) -> Call
     ensures { IsCallOf table.now i position result }
 {
     table.call(i, position)
+}
+
+/// The call at that position, from 0, of the journey of that number, with the number of its place.
+pub fn found_at(table: &Timetable, i: usize, position: usize) -> FoundCall
+    requires { IsInJourney table.now i position }
+    ensures call { IsCallOf table.now i position result.call }
+    ensures place { place_number table.now result.call.stop ≡ Some result.place }
+{
+    table.found(i, position)
 }
 
 /// The number of the stop among the places.

@@ -1,5 +1,5 @@
 -- What is kept of the contents: entries by their names, and the calls of all journeys in one row.
-use Rattle.std.specs.Prelude.{ℕ, ◌≤◌, ◌<◌, ◌≡◌, List, length, [], ◌∷◌, Option, Some, None, drop, slice_range, slice_get, option_map, unwrap_or}
+use Rattle.std.specs.Prelude.{ℕ, ◌≤◌, ◌≡◌, List, [], ◌∷◌, Option, Some, None, drop, slice_range, slice_get, option_map, unwrap_or, bytes_eq, position}
 use Rattle.ojp_values.specs.Texts.{Text}
 use Rattle.ojp_timetable.specs.Tables.{Place, Service, Journey, Call}
 use Rattle.ojp_timetable.specs.declared.kept.PlaceFacts.{PlaceFacts}
@@ -35,14 +35,18 @@ stop_of places number = unwrap_or (option_map (λ (place : Place). place.stop) (
 abbrev pub call_kept : List Place → KeptCall → Call
 call_kept places kept = record { stop = stop_of places kept.place; arrives = kept.arrives; departs = kept.departs }
 
--- each call is at one of so many stops
-abbrev pub AreAtPlaces : ℕ → List KeptCall → Type 0
-AreAtPlaces places [] = Unit {0}
-AreAtPlaces places (kept ∷ more) = (kept.place < places) × AreAtPlaces places more
+-- the number is that of the first place of the stop
+abbrev pub HasNumber : List Place → Text → ℕ → Type 0
+HasNumber places stop number = position (λ (place : Place). bytes_eq stop place.stop) places ≡ Some number
 
--- the call is at the stop of its number
+-- each call is kept by the number of its stop
+abbrev pub AreAtPlaces : List Place → List KeptCall → Type 0
+AreAtPlaces places [] = Unit {0}
+AreAtPlaces places (kept ∷ more) = HasNumber places (stop_of places kept.place) kept.place × AreAtPlaces places more
+
+-- the number is that of the call's stop
 abbrev pub IsAtPlace : List Place → FoundCall → Type 0
-IsAtPlace places found = (found.place < length places) × (stop_of places found.place ≡ found.call.stop)
+IsAtPlace places found = HasNumber places found.call.stop found.place
 
 abbrev pub service_kept : Text × Dates → Service
 service_kept entry = record { id = entry.0; first = entry.1.first; last = entry.1.last; marks = entry.1.marks }

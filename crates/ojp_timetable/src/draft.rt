@@ -6,8 +6,8 @@ ghost use Rattle.ojp_values.specs.declared.trips.Neighbour.{Neighbour as Neighbo
 
 use crate::calls::Call;
 use crate::file::checks::{CALLS, JOURNEYS, PLACES};
-use crate::kept::{FoundCall, Head, JourneyView, PlaceFacts, PlaceView};
 use crate::file::lines::{Dates, Line};
+use crate::kept::{FoundCall, Head, JourneyView, PlaceFacts, PlaceView};
 use crate::point_lists::{insert_neighbour_at, insert_point};
 use crate::stops::Stops;
 use indexmap::IndexMap;
@@ -112,6 +112,7 @@ impl Draft {
     ghost use Rattle.ojp_timetable.specs.Contents.{Contents, no_contents, has_place, has_service, has_journey, service_number, neighbours_at, calls_in, with_call, with_neighbour, with_point, point_with};
     ghost use Rattle.ojp_timetable.specs.Checks.{is_doubled, lacks_stop};
     ghost use Rattle.ojp_timetable.specs.Kept.{IsAtPlace, facts_of};
+    ghost use Rattle.ojp_timetable.specs.declared.kept.FoundCall.{FoundCall as FoundCallValue};
     ghost use Rattle.ojp_timetable.specs.Views.{calls_at, dates_of, place_view, view_of};
     ghost use Rattle.ojp_timetable.specs.Tables.{Journey as JourneyValue, Place as PlaceValue};
     ghost use Rattle.ojp_values.specs.Texts.{same};
@@ -473,9 +474,10 @@ impl Draft {
         end_at(&self.journeys, i, self.stops.calls()) - head.first_call
     }
 
-    /// The call at that position of the journey of that number.
-    pub fn call_at(&self, i: usize, position: usize) -> Option<Call>
-        ensures { result ≡ slice_get (calls_at self.now.journeys i) position }
+    /// The call at that position of the journey of that number, with the number of its stop.
+    pub fn call_at(&self, i: usize, position: usize) -> Option<FoundCall>
+        ensures call { option_map (λ (found : FoundCallValue). found.call) result ≡ slice_get (calls_at self.now.journeys i) position }
+        ensures place { IfSome result (IsAtPlace self.now.places) }
     {
         let Some((_, head)) = head_at(&self.journeys, i) else {
             return None;

@@ -1,5 +1,5 @@
 //! The stops of a timetable and the calls at them.
-ghost use Rattle.std.specs.Prelude.{◌≡◌, ◌<◌, false, is_some, IfOk, OnOk, OnErr, length, option_map, find, bytes_eq, position, slice_get, [], ◌∷◌, ◌++◌};
+ghost use Rattle.std.specs.Prelude.{◌≡◌, ◌<◌, false, is_some, IfOk, IfSome, OnOk, OnErr, length, option_map, find, bytes_eq, position, slice_get, [], ◌∷◌, ◌++◌};
 ghost use Rattle.std.specs.List.{list_any};
 
 use crate::calls::Call;
@@ -25,11 +25,12 @@ impl Model for Stops {
 
     ghost view = { λ s. record { places = map place_kept s.facts.entries; calls = map (call_kept (map place_kept s.facts.entries)) s.kept.items } };
 
-    ghost invariant = { λ s. AreAtPlaces (length s.facts.entries) s.kept.items };
+    ghost invariant = { λ s. AreAtPlaces (map place_kept s.facts.entries) s.kept.items };
 }
 
 impl Stops {
-    ghost use Rattle.ojp_timetable.specs.Kept.{IsAtPlace, facts_of, no_stops, stop_of};
+    ghost use Rattle.ojp_timetable.specs.Kept.{IsAtPlace, call_kept, facts_of, no_stops, stop_of};
+    ghost use Rattle.ojp_timetable.specs.declared.kept.FoundCall.{FoundCall as FoundCallValue};
     ghost use Rattle.ojp_timetable.specs.Tables.{Place as PlaceValue};
     ghost use Rattle.ojp_timetable.specs.Views.{place_view};
 
@@ -117,17 +118,31 @@ impl Stops {
         }
     }
 
+    // The call that is kept so.
+    fn found(&self, kept: &KeptCall) -> FoundCall
+        requires { kept.now.place < length self.now.places }
+        ensures call { result.call ≡ call_kept self.now.places kept.now }
+        ensures place { result.place ≡ kept.now.place }
+    {
+        let call = Call {
+            stop: self.stop_at(kept.place),
+            arrives: kept.arrives,
+            departs: kept.departs,
+        };
+        FoundCall {
+            call,
+            place: kept.place,
+        }
+    }
+
     /// The call of that number in the row.
-    pub fn call_at(&self, i: usize) -> Option<Call>
-        ensures { result ≡ slice_get self.now.calls i }
+    pub fn call_at(&self, i: usize) -> Option<FoundCall>
+        ensures call { option_map (λ (found : FoundCallValue). found.call) result ≡ slice_get self.now.calls i }
+        ensures place { IfSome result (IsAtPlace self.now.places) }
     {
         match self.kept.get(i) {
             None => None,
-            Some(kept) => Some(Call {
-                stop: self.stop_at(kept.place),
-                arrives: kept.arrives,
-                departs: kept.departs,
-            }),
+            Some(kept) => Some(self.found(kept)),
         }
     }
 

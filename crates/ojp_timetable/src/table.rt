@@ -1,13 +1,13 @@
 //! A timetable that was read.
 ghost use Rattle.std.specs.Prelude.{◌≡◌, ◌≤◌, ◌<◌, length, slice_get, position, bytes_eq, option_map, ◌↔◌, IsTrue, IfOk, IfErr, Some};
 
-use crate::file::above::Above;
 use crate::calls::Call;
 use crate::draft::Draft;
-use crate::kept::{JourneyView, PlaceView};
+use crate::file::above::Above;
 use crate::file::lines::Dates;
 use crate::file::reading::read_lines;
 use crate::file::refusals::TableRefused;
+use crate::kept::{FoundCall, JourneyView, PlaceView};
 use ojp_values::{Code, Day, Instant, Label, Name, Point, StopRef};
 use ojp_zones::noons::Noons;
 use std::alloc::Global;
@@ -36,6 +36,7 @@ impl Model for Timetable {
 
 impl Timetable {
     ghost use Rattle.ojp_values.specs.Texts.{same};
+    ghost use Rattle.ojp_timetable.specs.Kept.{IsAtPlace};
     ghost use Rattle.ojp_timetable.specs.Tables.{Journey as JourneyValue, Place as PlaceValue, change_of, has, name_of};
     ghost use Rattle.ojp_timetable.specs.Runs.{IsWell, RunsOn, moment};
     ghost use Rattle.ojp_timetable.specs.Views.{calls_at, dates_of, place_view, view_of};
@@ -222,8 +223,17 @@ impl Timetable {
         requires { position < length (calls_at self.now.journeys i) }
         ensures { slice_get (calls_at self.now.journeys i) position ≡ Some result }
     {
+        self.found(i, position).call
+    }
+
+    /// The call at that place of the journey of that number, with the number of its stop.
+    pub fn found(&self, i: usize, position: usize) -> FoundCall
+        requires { position < length (calls_at self.now.journeys i) }
+        ensures call { slice_get (calls_at self.now.journeys i) position ≡ Some result.call }
+        ensures place { IsAtPlace self.now.places result }
+    {
         match self.draft.call_at(i, position) {
-            Some(call) => call,
+            Some(found) => found,
             None => unreachable!(),
         }
     }

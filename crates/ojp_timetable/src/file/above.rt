@@ -7,13 +7,13 @@ ghost use Rattle.ojp_timetable.specs.Said.{found_said, is_call_line};
 ghost use Rattle.ojp_zones.specs.Noons.{IsZone};
 
 use crate::calls::Call;
-use crate::file::checks::{first_failing, first_failing_of_call};
 use crate::draft::Draft;
+use crate::file::checks::{first_failing, first_failing_of_call};
 use crate::file::fields::body;
-use crate::kept::FoundCall;
 use crate::file::lines::{Line, Open, TableReason};
 use crate::file::refusals::{LineRefused, TableRefused};
 use crate::file::said::{is_call_line, is_closed, left_by, left_open, read_call_line, read_said};
+use crate::kept::FoundCall;
 use ojp_outside::FILE_LIMIT;
 use std::alloc::Global;
 use std::marker::Model;

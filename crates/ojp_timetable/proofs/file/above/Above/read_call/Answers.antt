@@ -2,13 +2,12 @@ use Rattle.std.proofs.Common.{◌≡◌, ◌≤◌, Bool, true, false, not, refl
 use Rattle.std.specs.Prelude.{Some, None, Ok}
 use Rattle.ojp_timetable.specs.Checks.{is_long, lacks_stop, read_line}
 use Rattle.ojp_timetable.specs.Fields.{fields_of}
-use Rattle.ojp_timetable.specs.Kept.{IsAtPlace}
+use Rattle.ojp_timetable.specs.Kept.{HasNumber, IsAtPlace}
 use Rattle.ojp_timetable.specs.Lines.{Above}
 use Rattle.ojp_timetable.specs.Said.{entry_said}
 use Rattle.ojp_timetable.specs.Tables.{Call}
 use Rattle.ojp_timetable.specs.declared.file.lines.Line.TheVariants as lines
 use Rattle.ojp_timetable.proofs.CallFacts.{call_checked, call_fails, failed_found}
-use Rattle.ojp_timetable.proofs.StopFacts.{number-at}
 use Rattle.ojp_timetable.proofs.file.above.Above.read_call.Goals as goal
 
 pub returns-in_err-call-clause-value : goal.returns-in_err-call-clause-value
@@ -51,6 +50,6 @@ found-requires c = c.place_number-place.ensures.known ∙ is_there _ (c.in-None.
 
 pub returns-in-None-clause-place : goal.returns-in-None-clause-place
 returns-in-None-clause-place c =
-    subst (λ (a : Above). IsAtPlace a.contents.places c.found.result) c.self.view_is
-    (number-at c.in_ok-call.call.stop c.self.inside.draft.places c.found.result.call c.found.result.place (ap (λ (call : Call). call.stop) c.found.ensures.call)
-    (sym c.place_number-place.ensures.first ∙ c.found.ensures.place))
+    let found = c.found.result in
+    subst (λ (a : Above). IsAtPlace a.contents.places found) c.self.view_is
+    (subst (λ (call : Call). HasNumber c.self.inside.draft.places call.stop found.place) (sym c.found.ensures.call) (sym c.place_number-place.ensures.first ∙ c.found.ensures.place))
