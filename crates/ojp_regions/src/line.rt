@@ -1,13 +1,12 @@
 //! One line of a file of regions.
 
 ghost use Rattle.std.specs.Prelude.{◌≡◌, List, IfOk, IfErr};
-ghost use Rattle.ojp_timetable.specs.Fields.{body};
 ghost use Rattle.ojp_regions.specs.Lines.{AreFields, IsFieldsRefusal, IsLineRefusal, Says};
 ghost use Rattle.ojp_regions.specs.declared.line.RegionLine.{RegionLine as RegionLineValue};
 
 use crate::host::{Host, is_host};
 use crate::port::read_port;
-use ojp_timetable::TableReason;
+use ojp_timetable::{TableReason, body};
 use ojp_values::{Code, NoMemory};
 use ojp_zones::parts::Split;
 use ojp_zones::splits::split;
@@ -26,17 +25,6 @@ pub struct RegionLine {
     pub code: Code,
     pub host: Host,
     pub port: u16,
-}
-
-/// The line without its line feed.
-#[tactic(auto, unfolding(ojp_timetable::specs::Fields::body))]
-fn body(line: &[u8]) -> &[u8]
-    ensures { result.now ≡ body line.now }
-{
-    match line {
-        [text @ .., b'\n'] => text,
-        _ => line,
-    }
 }
 
 /// The region of the fields.

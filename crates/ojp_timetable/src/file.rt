@@ -2,7 +2,7 @@
 
 pub mod above;
 pub(crate) mod checks;
-mod fields;
+pub(crate) mod fields;
 pub(crate) mod lines;
 mod read_words;
 pub(crate) mod reading;

@@ -12,6 +12,7 @@ pub mod stops;
 mod table;
 
 pub use calls::Call;
+pub use file::fields::body;
 pub use file::lines::TableReason;
 pub use file::reading::split_line;
 pub use file::refusals::TableRefused;

@@ -9,16 +9,9 @@ ghost use Rattle.ojp_timetable.specs.Checks.{checks, departed, falls_from, first
 
 use crate::calls::Call;
 use crate::draft::Draft;
+use crate::file::fields::is_same;
 use crate::file::lines::{Line, Open, TableReason};
 use ojp_values::{Code, Neighbour, StopRef};
-
-// Whether the texts are the same bytes.
-#[tactic(auto, unfolding(ojp_values::specs::Texts::same))]
-fn is_same(text: &[u8], other: &[u8]) -> bool
-    ensures { result ≡ same text.now other.now }
-{
-    text == other
-}
 
 // Where the first colon stands.
 fn first_colon(text: &[u8]) -> Option<usize>

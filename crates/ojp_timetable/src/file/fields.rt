@@ -68,3 +68,11 @@ pub fn body(line: &[u8]) -> &[u8]
         _ => line,
     }
 }
+
+/// Whether the texts are the same bytes.
+#[tactic(auto, unfolding(ojp_values::specs::Texts::same))]
+pub fn is_same(text: &[u8], other: &[u8]) -> bool
+    ensures { result ≡ same text.now other.now }
+{
+    text == other
+}

@@ -10,21 +10,13 @@ ghost use Rattle.ojp_timetable.specs.Fields.{fields_of, IsNotThree, IsNotTwo};
 ghost use Rattle.ojp_timetable.specs.Said.{are_marks, call_fields, call_said, called, day_of, entry_said, header_said, is_call_line, is_closed, is_dash, is_mark, is_offset, journey_fields, journey_said, marks_of, may_call, neighbour_fields, neighbour_said, offset, place_fields, place_said, region_said, said, service_fields, service_said, word_fields, zone_said};
 
 use crate::calls::Call;
-use crate::file::fields::Fields;
+use crate::file::fields::{Fields, is_same};
 use crate::file::lines::{Dates, Line, Open, TableReason};
 use crate::file::read_words::word_of;
 use crate::file::words::Word;
 use ojp_values::{Code, Day, Label, Name, Neighbour, StopRef};
 use ojp_zones::numbers::read_number;
 use ojp_zones::zone_text::read_zone;
-
-// Whether the texts are the same bytes.
-#[tactic(auto, unfolding(ojp_values::specs::Texts::same))]
-fn is_same(text: &[u8], other: &[u8]) -> bool
-    ensures { result ≡ same text.now other.now }
-{
-    text == other
-}
 
 // A stop with its change time and its name.
 fn read_place(shared: bool, stop: &[u8], change: &[u8], name: &[u8]) -> Result<Line, TableReason>
