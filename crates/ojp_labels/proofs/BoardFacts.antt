@@ -8,7 +8,8 @@ use Rattle.ojp_records.proofs.BoardFacts.{record_more}
 use Rattle.ojp_records.proofs.WantedFacts.{open_start}
 use Rattle.ojp_records.proofs.CheckedFacts.{check_open, checks_same, state_checked}
 use Rattle.ojp_labels.specs.Boards.{IsBoardOf, IsUnchanged, starts_by, IsLabel, AreLabels, own_spot, IsOwnLabel, own_told, IsKept}
-use Rattle.ojp_labels.proofs.LabelFacts.{new_arrivals, told_other, labels_told, label_told_here, label_told_elsewhere, known_told, known_starts_by, starts_more, start_after_back, arrivals_push, best_is_by, best_more}
+use Rattle.ojp_records.proofs.StartFacts.{start_after_back}
+use Rattle.ojp_labels.proofs.LabelFacts.{new_arrivals, told_other, labels_told, label_told_here, label_told_elsewhere, known_told, known_starts_by, starts_more, arrivals_push, best_is_by, best_more}
 use Rattle.ojp_records.specs.Starts.{arrivals_heard, Arrival, arrivals, is_within, starts_after, lesser_of}
 use Rattle.ojp_labels.specs.Hearing.{heard_in, AnswersEach, told_in, IsMarked, Follow, best_by}
 use Rattle.ojp_values.specs.Lists.{Among, least}

@@ -15,7 +15,8 @@ use Rattle.ojp_records.specs.Starts.{Arrival, arrivals_told, is_within, moment_o
 use Rattle.ojp_labels.specs.Labels.{lowered_by, IsWithin}
 use Rattle.ojp_labels.specs.Boards.{AreLabels, IsLabel, starts_by}
 use Rattle.ojp_labels.specs.Hearing.{is_away, stop_of, ways_on, stops_to, way_stops, told_by, Follow, best_by}
-use Rattle.ojp_labels.proofs.LabelFacts.{labels_arrive, start_after_back, known_more, starts_more, lesser_none, best_more}
+use Rattle.ojp_records.proofs.StartFacts.{start_after_back}
+use Rattle.ojp_labels.proofs.LabelFacts.{labels_arrive, known_more, starts_more, lesser_none, best_more}
 use Rattle.ojp_records.proofs.BoardFacts.{filter_append}
 use Rattle.ojp_timetable.proofs.ReadFacts.{among_at}
 use Rattle.ojp_exchange.proofs.SpotFacts.{returned_at}

@@ -21,7 +21,7 @@ use Rattle.ojp_records.proofs.RecordFacts.{same_query_is, is_same_query, is_told
 use Rattle.ojp_exchange.proofs.BookFacts.{region_is}
 use Rattle.ojp_exchange.proofs.SpotFacts.{one_place, known_at}
 use Rattle.ojp_records.proofs.BoardFacts.{least_append, filter_append, arrivals_append, is_told_append, is_failed_append, lesser_assoc}
-use Rattle.ojp_records.proofs.StartFacts.{after_is_start}
+use Rattle.ojp_records.proofs.StartFacts.{after_is_start, start_after_back}
 use Rattle.ojp_values.specs.declared.asks.TripAsk.{TripAsk}
 use Rattle.ojp_exchange.specs.declared.spots.Edge.{Edge}
 use Rattle.ojp_records.specs.declared.queries.Query.{Query}
@@ -127,35 +127,6 @@ time_to place moment (edge ∷ edges) change (inr h) = go (eqb edge.to place) (t
     go : (b : Bool) → Among (moment + change) (times_to place moment edges) → Among (moment + change) (cond b ((moment + edge.change) ∷ times_to place moment edges) (times_to place moment edges))
     go true rest = inr rest
     go false rest = rest
-
--- a start after the arrival comes by a change
-pub start_after_back : (book : Book) (stop region : Text) (arrival : Arrival) (start : ℕ) → Among start (starts_after book stop region arrival) → (change : ℕ) × (arrival.stop ≡ stop) × (region ≢ arrival.region) × HasChange book stop arrival.region region change × (start ≡ arrival.moment + change)
-unfolding starts_after
-start_after_back book stop region arrival start h = go (may_change book stop region arrival) refl h
-  where
-    go : (b : Bool) → may_change book stop region arrival ≡ b → Among start (cond b (map (λ (link : Link). arrival.moment + link.change) (filter (is_change stop region arrival) book.links)) []) → (change : ℕ) × (arrival.stop ≡ stop) × (region ≢ arrival.region) × HasChange book stop arrival.region region change × (start ≡ arrival.moment + change)
-    go false e i = absurd i
-    go true e i =
-        let first : (same stop arrival.stop ≡ true) × ((not (same region arrival.region) && has_region book arrival.region) ≡ true) = and_parts _ _ e in
-        let second : (not (same region arrival.region) ≡ true) × (has_region book arrival.region ≡ true) = and_parts _ _ first.1 in
-        let m : Member (filter (is_change stop region arrival) book.links) (λ (link : Link). start ≡ arrival.moment + link.change) = among_map_back (λ (link : Link). arrival.moment + link.change) start _ i in
-        let listed : Among m.item book.links × (is_change stop region arrival m.item ≡ true) = among_filter_back (is_change stop region arrival) m.item book.links m.among in
-        let third : (same stop m.item.stop ≡ true) × ((same region m.item.region && same arrival.region m.item.other) ≡ true) = and_parts _ _ listed.1 in
-        let fourth : (same region m.item.region ≡ true) × (same arrival.region m.item.other ≡ true) = and_parts _ _ third.1 in (
-          m.item.change,
-          sym (same_is stop arrival.stop first.0),
-          differ_is region arrival.region (not-true _ second.0),
-          record {
-            known = region_is book arrival.region second.1;
-            link = m.item;
-            listed = listed.0;
-            at = sym (same_is stop m.item.stop third.0);
-            declaring = sym (same_is region m.item.region fourth.0);
-            other = sym (same_is arrival.region m.item.other fourth.1);
-            time = refl;
-          },
-          m.holds,
-        )
 
 -- two spots at one place are one
 same_spot : (book : Book) (place : ℕ) (x y : Spot) → IsSpotAt book place x → IsSpotAt book place y → x ≡ y

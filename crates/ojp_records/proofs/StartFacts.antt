@@ -164,35 +164,39 @@ asked_back book ask stop region start h =
       is = elim both.1 [ inl e ↦ e | inr none ↦ absurd none ];
     }
 
-after_back : (book : Book) (ask : TripAsk) (told : List Entry) (stop region : Text) (start : ℕ) (arrival : Arrival) → Among arrival (arrivals book ask told) → Among start (starts_after book stop region arrival) → IsAfter book ask told stop region start
+-- a start after the arrival comes by a change
+pub start_after_back : (book : Book) (stop region : Text) (arrival : Arrival) (start : ℕ) → Among start (starts_after book stop region arrival) → (change : ℕ) × (arrival.stop ≡ stop) × (region ≢ arrival.region) × HasChange book stop arrival.region region change × (start ≡ arrival.moment + change)
 unfolding starts_after
+start_after_back book stop region arrival start h = go (may_change book stop region arrival) refl h
+  where
+    go : (b : Bool) → may_change book stop region arrival ≡ b → Among start (cond b (map (λ (link : Link). arrival.moment + link.change) (filter (is_change stop region arrival) book.links)) []) → (change : ℕ) × (arrival.stop ≡ stop) × (region ≢ arrival.region) × HasChange book stop arrival.region region change × (start ≡ arrival.moment + change)
+    go false e i = absurd i
+    go true e i =
+        let first : (same stop arrival.stop ≡ true) × ((not (same region arrival.region) && has_region book arrival.region) ≡ true) = and_parts _ _ e in
+        let second : (not (same region arrival.region) ≡ true) × (has_region book arrival.region ≡ true) = and_parts _ _ first.1 in
+        let m : Member (filter (is_change stop region arrival) book.links) (λ (link : Link). start ≡ arrival.moment + link.change) = among_map_back (λ (link : Link). arrival.moment + link.change) start _ i in
+        let listed : Among m.item book.links × (is_change stop region arrival m.item ≡ true) = among_filter_back (is_change stop region arrival) m.item book.links m.among in
+        let third : (same stop m.item.stop ≡ true) × ((same region m.item.region && same arrival.region m.item.other) ≡ true) = and_parts _ _ listed.1 in
+        let fourth : (same region m.item.region ≡ true) × (same arrival.region m.item.other ≡ true) = and_parts _ _ third.1 in (
+          m.item.change,
+          sym (same_is stop arrival.stop first.0),
+          differ_is region arrival.region (not-true _ second.0),
+          record {
+            known = region_is book arrival.region second.1;
+            link = m.item;
+            listed = listed.0;
+            at = sym (same_is stop m.item.stop third.0);
+            declaring = sym (same_is region m.item.region fourth.0);
+            other = sym (same_is arrival.region m.item.other fourth.1);
+            time = refl;
+          },
+          m.holds,
+        )
+
+after_back : (book : Book) (ask : TripAsk) (told : List Entry) (stop region : Text) (start : ℕ) (arrival : Arrival) → Among arrival (arrivals book ask told) → Among start (starts_after book stop region arrival) → IsAfter book ask told stop region start
 after_back book ask told stop region start arrival heard h =
-    let moments : List ℕ = map (λ (link : Link). arrival.moment + link.change) (filter (is_change stop region arrival) book.links) in
-    let both : (may_change book stop region arrival ≡ true) × Among start moments = among_if (may_change book stop region arrival) start moments h in
-    let first : (same stop arrival.stop ≡ true) × ((not (same region arrival.region) && has_region book arrival.region) ≡ true) = and_parts _ _ both.0 in
-    let second : (not (same region arrival.region) ≡ true) × (has_region book arrival.region ≡ true) = and_parts _ _ first.1 in
-    let m : Member (filter (is_change stop region arrival) book.links) (λ (link : Link). start ≡ arrival.moment + link.change) =
-    among_map_back (λ (link : Link). arrival.moment + link.change) start _ both.1 in
-    let listed : Among m.item book.links × (is_change stop region arrival m.item ≡ true) = among_filter_back (is_change stop region arrival) m.item book.links m.among in
-    let third : (same stop m.item.stop ≡ true) × ((same region m.item.region && same arrival.region m.item.other) ≡ true) = and_parts _ _ listed.1 in
-    let fourth : (same region m.item.region ≡ true) × (same arrival.region m.item.other ≡ true) = and_parts _ _ third.1 in
-    record {
-      arrival = arrival;
-      heard = heard;
-      at = sym (same_is stop arrival.stop first.0);
-      other = differ_is region arrival.region (not-true _ second.0);
-      change = m.item.change;
-      has = record {
-        known = region_is book arrival.region second.1;
-        link = m.item;
-        listed = listed.0;
-        at = sym (same_is stop m.item.stop third.0);
-        declaring = sym (same_is region m.item.region fourth.0);
-        other = sym (same_is arrival.region m.item.other fourth.1);
-        time = refl;
-      };
-      is = m.holds;
-    }
+    let it : (change : ℕ) × (arrival.stop ≡ stop) × (region ≢ arrival.region) × HasChange book stop arrival.region region change × (start ≡ arrival.moment + change) = start_after_back book stop region arrival start h in
+    record { arrival = arrival; heard = heard; at = it.1; other = it.2; change = it.0; has = it.3; is = it.4 }
 
 pub known_start_back : (book : Book) (ask : TripAsk) (told : List Entry) (stop region : Text) (start : ℕ) → Among start (known_starts book ask told stop region) → IsAsked book ask stop region start ⊎ IsAfter book ask told stop region start
 unfolding known_starts
