@@ -86,18 +86,6 @@ points_answered book v ask told delivery none by =
       given = tt;
     }
 
-pub same_stop : (book : Book) (v : View) (ask : TripAsk) (told : List Entry) (delivery : Delivery) → ask.origin ≡ ask.target → told ≡ [] → delivery ≡ deliveries.Trip (trip_replies.Fault (faults.SameStop ask.origin)) → Answers book v v told (asks.Trip ask) delivery
-same_stop book v ask told delivery alike none is =
-    record {
-      kind = subst (IsOfKind (asks.Trip ask)) (sym is) tt;
-      right = λ tables own. inl (trip_replies.Fault (faults.SameStop ask.origin), is, (refl, alike));
-      names_failed = λ code e. let no : deliveries.Trip (trip_replies.Fault (faults.SameStop ask.origin)) ≡ deliveries.Trip (trip_replies.Fault (faults.RegionFailed code)) = sym is ∙ e in absurd (cc);
-      not_served = tt;
-      ends = (λ differ. absurd (differ alike), λ e. none);
-      causes = subst (Each (HasCause v v)) (sym none) tt;
-      given = λ tables tells. subst (AreGiven tables book ask) (sym none) tt;
-    }
-
 -- ---- by a search
 
 -- all that the search was told since it was new
