@@ -1,9 +1,9 @@
 -- The words of a command line, and the command that they name.
 use Rattle.std.specs.declared.alloc.Global.{Global}
 use Rattle.std.specs.Fmt.{decimal}
-use Rattle.std.specs.Prelude.{◌≡◌, ◌≤◌, ◌<◌, ◌^◌, ℕ, Bool, true, false, String, string_bytes, map, length, List, [], ◌∷◌, Option, Some, None, codes, nat_eq, nat_lt, bytes_eq, if◌then◌else◌}
-use Rattle.std.specs.List.{starts_with}
+use Rattle.std.specs.Prelude.{◌≡◌, ◌≤◌, ◌<◌, ◌^◌, ℕ, Bool, true, false, String, string_bytes, map, length, List, [], ◌∷◌, Option, Some, None, codes, nat_lt, bytes_eq, if◌then◌else◌}
 use Rattle.ojp_values.specs.Texts.{Text}
+use Rattle.ojp_online.specs.Words.{is_option}
 
 -- a command: `plan` with the word of its order, where it has one, whether it tells its trace, and its timetable files; `check`; or
 -- `load` with the word of its number
@@ -11,10 +11,6 @@ pub data Command : Type 0 where
   Plan : Option Text → Bool → List Text → Command
   Check : Command
   Load : Text → Command
-
--- the word is an option: it begins with two hyphens
-abbrev pub is_option : Text → Bool
-is_option word = starts_with nat_eq word (codes "--")
 
 -- ---- `plan [--order N] [--trace] FILE..`, the options in either order
 

@@ -1,9 +1,10 @@
 //! The words of a command line.
 
 ghost use Rattle.std.specs.Prelude.{◌≡◌, ℕ, Some, None, MatchOption};
-ghost use Rattle.ojp_cli.specs.Words.{named_by, is_option, behind_order, one_word, order_words, other_words, plan_of, plan_words, texts_of, trace_words, traced_words, two_words, IsNumber, IsOrder};
+ghost use Rattle.ojp_cli.specs.Words.{named_by, behind_order, one_word, order_words, other_words, plan_of, plan_words, texts_of, trace_words, traced_words, two_words, IsNumber, IsOrder};
 ghost use Rattle.ojp_cli.specs.Commands.{meaning, text_in};
 
+use ojp_online::is_option_word;
 use ojp_values::read_number;
 
 /// The most files of `plan`.
@@ -202,11 +203,4 @@ fn read_named_order(word: &str) -> Option<u64>
         }
         None => None,
     }
-}
-
-/// Options begin with two hyphens.
-fn is_option_word(word: &str) -> bool
-    ensures { result ≡ is_option word.now }
-{
-    word.as_bytes().starts_with(b"--")
 }

@@ -15,3 +15,4 @@ mod words;
 pub use asking::ask;
 pub use joining::gateway;
 pub use net::run_net;
+pub use words::is_option_word;

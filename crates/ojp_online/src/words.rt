@@ -106,8 +106,8 @@ fn named_server<'a>(word: &'a str, words: ServerWords<'a>) -> Option<Command<'a>
     }
 }
 
-/// Options begin with two hyphens.
-fn is_option_word(word: &str) -> bool
+/// Whether the word is an option: it begins with two hyphens.
+pub fn is_option_word(word: &str) -> bool
     ensures { result ≡ is_option word.now }
 {
     word.as_bytes().starts_with(b"--")
