@@ -25,7 +25,7 @@ use Rattle.ojp_records.specs.declared.queries.Query.TheVariants.{Check, Reach}
 use Rattle.ojp_records.specs.declared.queries.Entry.{Entry}
 use Rattle.ojp_records.specs.Starts.{Arrival, arrivals, arrivals_heard, best}
 use Rattle.ojp_records.specs.Pairs.{ends_towards}
-use Rattle.ojp_records.specs.Told.{EntryFits, IsOpen, IsRecord, ReplyFits, ToldInTurn}
+use Rattle.ojp_records.specs.Told.{EntryFits, IsOpenQuery, IsRecord, ReplyFits, ToldInTurn}
 use Rattle.ojp_records.specs.Chains.{Chain, ChainOn, Chained, IsTripOf, legs_of}
 use Rattle.ojp_records.proofs.Chained.{ListedTrip, fits_forward, fits_reach, listed_trip, some_legs}
 use Rattle.ojp_records.proofs.ChainFacts.{AnswersSome, pairwise_at}
@@ -150,12 +150,12 @@ last_is_there book ask told end need well e stop moment next none =
 -- ---- each other trip has one before it
 
 -- an entry was open by those before it
-open_then : (book : Book) (ask : TripAsk) (before later : List Entry) (n : ℕ) (it : Entry) → ToldInTurn book ask before later → slice_get later n ≡ Some it → IsOpen book ask (before ++ take n later) it.query
+open_then : (book : Book) (ask : TripAsk) (before later : List Entry) (n : ℕ) (it : Entry) → ToldInTurn book ask before later → slice_get later n ≡ Some it → IsOpenQuery book ask (before ++ take n later) it.query
 open_then book ask before [] n it turn e = absurd (none-some it e)
 open_then book ask before (first ∷ later) zero it turn e =
-    subst (λ (entries : List Entry). IsOpen book ask entries it.query) (sym (append-nil before)) (subst (λ (x : Entry). IsOpen book ask before x.query) (same_Some first it e) turn.0)
+    subst (λ (entries : List Entry). IsOpenQuery book ask entries it.query) (sym (append-nil before)) (subst (λ (x : Entry). IsOpenQuery book ask before x.query) (same_Some first it e) turn.0)
 open_then book ask before (first ∷ later) (suc n) it turn e =
-    subst (λ (entries : List Entry). IsOpen book ask entries it.query) (append_assoc before (first ∷ []) (take n later)) (open_then book ask (before ++ first ∷ []) later n it turn.1 e)
+    subst (λ (entries : List Entry). IsOpenQuery book ask entries it.query) (append_assoc before (first ∷ []) (take n later)) (open_then book ask (before ++ first ∷ []) later n it turn.1 e)
 
 each_taken : (P : Entry → Type 0) (entries : List Entry) (n : ℕ) → Each P entries → Each P (take n entries)
 each_taken P entries zero h = tt
@@ -175,7 +175,7 @@ pub before_is_there : (book : Book) (ask : TripAsk) (told : List Entry) (ride : 
     → need.stop ≡ ride.stop → need.moment ≡ ride.start → need.next ≡ Some ride.region → ((k : ℕ) → k < ride.entry → HasNoRide book need told k) → ⊥
 before_is_there book ask told ride trip need well it other stop moment next none =
     let earlier = take ride.entry told in
-    let opened : IsOpen book ask earlier (Reach ride.region ride.stop ride.start) = subst (λ (q : Query). IsOpen book ask earlier q) it.query (open_then book ask [] told ride.entry it.it well.in_turn it.at) in
+    let opened : IsOpenQuery book ask earlier (Reach ride.region ride.stop ride.start) = subst (λ (q : Query). IsOpenQuery book ask earlier q) it.query (open_then book ask [] told ride.entry it.it well.in_turn it.at) in
     elim (known_start_back book ask earlier ride.stop ride.region ride.start (open_start book ask earlier ride.region ride.stop ride.start opened)) [
       | inl asked ↦ other (asked.at, asked.is)
       | inr after ↦

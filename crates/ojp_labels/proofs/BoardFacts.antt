@@ -20,7 +20,7 @@ use Rattle.ojp_exchange.specs.Places.{IsPairAt, NoPairAt}
 use Rattle.ojp_exchange.specs.Kept.{IsWellBook}
 use Rattle.ojp_records.specs.Records.{is_told, has_reply}
 use Rattle.ojp_records.specs.Pairs.{ends_towards}
-use Rattle.ojp_records.specs.Told.{IsOpen, ReplyFits, EntryFits}
+use Rattle.ojp_records.specs.Told.{IsOpenQuery, ReplyFits, EntryFits}
 use Rattle.ojp_labels.specs.Labels.{marked}
 use Rattle.ojp_timetable.proofs.TextFacts.{same_is, is_same}
 use Rattle.std.specs.List.{filter, flat_map, list_any}
@@ -147,12 +147,12 @@ pub reached :
     (book : Book) (ask : TripAsk) (told : List Entry) (arrival : Option ℕ) (origin target : PlaceState) (own : Label) (labels mid new : List Label)
     (entry : Entry) (stop region : Text) (start : ℕ)
     → IsKept book ask told arrival origin target own labels
-    → IsOpen book ask told entry.query → EntryFits book ask entry → entry.query ≡ Reach region stop start
+    → IsOpenQuery book ask told entry.query → EntryFits book ask entry → entry.query ≡ Reach region stop start
     → IsMarked book region stop start (not (has_reply entry.reply)) labels mid
     → Follow book ask (told_in ask region (ends_towards book ask.target stop region) entry.reply) mid new
     → IsKept book ask (told ++ entry ∷ []) (lesser_of arrival (best_by ask (told_in ask region (ends_towards book ask.target stop region) entry.reply))) origin target (own_told ask region stop start (not (has_reply entry.reply)) own) new
 reached book ask told arrival origin target own labels mid new entry stop region start it is_open fits query_is is_marked follow =
-    let is_open' : IsOpen book ask told (Reach region stop start) = subst (λ (q : Query). IsOpen book ask told q) query_is is_open in
+    let is_open' : IsOpenQuery book ask told (Reach region stop start) = subst (λ (q : Query). IsOpenQuery book ask told q) query_is is_open in
     let listed : Among start (starts_by book ask (arrivals book ask told) stop region) = subst (λ (xs : List ℕ). Among start xs) (known_starts_by book ask told stop region) (open_start book ask told region stop start is_open') in
     let marked_ones : AreLabels book ask (told ++ entry ∷ []) (arrivals book ask told) mid = labels_marked book ask told (arrivals book ask told) labels mid entry stop region start it.book_well query_is is_open'.untold listed is_marked it.labels_are in
     let more : List Arrival = told_in ask region (ends_towards book ask.target stop region) entry.reply in
@@ -204,10 +204,10 @@ own_checked book ask told entry region stop own (Some code) query_is heard it =
 -- what the board keeps after an entry of a check
 pub checked :
     (book : Book) (ask : TripAsk) (told : List Entry) (arrival : Option ℕ) (origin target : PlaceState) (own : Label) (labels : List Label) (entry : Entry) (region stop : Text)
-    → IsKept book ask told arrival origin target own labels → IsOpen book ask told entry.query → EntryFits book ask entry → entry.query ≡ Check region stop
+    → IsKept book ask told arrival origin target own labels → IsOpenQuery book ask told entry.query → EntryFits book ask entry → entry.query ≡ Check region stop
     → IsKept book ask (told ++ entry ∷ []) arrival (state_after ask.origin stop (reply_state entry.reply) origin) (state_after ask.target stop (reply_state entry.reply) target) own labels
 checked book ask told arrival origin target own labels entry region stop it is_open fits query_is =
-    let is_open' : IsOpen book ask told (Check region stop) = subst (λ (q : Query). IsOpen book ask told q) query_is is_open in
+    let is_open' : IsOpenQuery book ask told (Check region stop) = subst (λ (q : Query). IsOpenQuery book ask told q) query_is is_open in
     let own_region : (home stop ≡ Some region) × (has_region book region ≡ true) = check_open book ask told region stop is_open' in
     let heard : arrivals book ask (told ++ entry ∷ []) ≡ arrivals book ask told =
     arrivals_push book ask told entry ∙ (ap (λ (q : Query). arrivals book ask told ++ filter (is_within ask) (arrivals_heard book ask q entry.reply)) query_is ∙ append-nil (arrivals book ask told)) in

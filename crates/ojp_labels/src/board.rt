@@ -7,7 +7,7 @@ ghost use Rattle.ojp_exchange.specs.Book.{Book as Flat};
 ghost use Rattle.ojp_exchange.specs.Places.{IsPairAt};
 ghost use Rattle.ojp_records.specs.Starts.{best};
 ghost use Rattle.ojp_records.specs.Wanted.{wanted, IsNext};
-ghost use Rattle.ojp_records.specs.Told.{document, IsOpen, ReplyFits};
+ghost use Rattle.ojp_records.specs.Told.{document, IsOpenQuery, ReplyFits};
 ghost use Rattle.ojp_records.specs.Ends.{failed_check, fault, least_text};
 ghost use Rattle.ojp_labels.specs.Slots.{are_known, known_slot, origin_slot, slots, somes, target_slot};
 ghost use Rattle.ojp_labels.specs.Boards.{ask_of, entry_of, failed_places, kept_slots, is_own, own_failed, own_slot, own_spot_of, own_told, told_of, IsBoardOf, IsUnchanged};
@@ -123,7 +123,7 @@ impl Board {
     /// Tells the reply to an open query. At an error the reply is dropped, and the board is as it was.
     pub fn hear(&mut self, book: &Book, query: &Query, reply: Delivery) -> Result<(), NoMemory>
         requires of { IsBoardOf self.old book.now }
-        requires fresh { IsOpen book.now (ask_of self.old) (told_of self.old) query.now }
+        requires fresh { IsOpenQuery book.now (ask_of self.old) (told_of self.old) query.now }
         requires fits { ReplyFits book.now (ask_of self.old) query.now (Some reply) }
         ensures of { IsBoardOf self.new book.now }
         ensures told { OnOk result (told_of self.new ≡ told_of self.old ++ entry_of query.now (Some reply) ∷ []) }
@@ -136,7 +136,7 @@ impl Board {
     /// Tells the failure of an open query. At an error the board is as it was.
     pub fn fail(&mut self, book: &Book, query: &Query) -> Result<(), NoMemory>
         requires of { IsBoardOf self.old book.now }
-        requires fresh { IsOpen book.now (ask_of self.old) (told_of self.old) query.now }
+        requires fresh { IsOpenQuery book.now (ask_of self.old) (told_of self.old) query.now }
         ensures of { IsBoardOf self.new book.now }
         ensures told { OnOk result (told_of self.new ≡ told_of self.old ++ entry_of query.now None ∷ []) }
         ensures ask { ask_of self.new ≡ ask_of self.old }
@@ -218,7 +218,7 @@ impl Board {
 impl Board {
     fn tell(&mut self, book: &Book, query: Query, reply: Option<Delivery>) -> Result<(), NoMemory>
         requires of { IsBoardOf self.old book.now }
-        requires fresh { IsOpen book.now self.old.ask self.old.told.items query }
+        requires fresh { IsOpenQuery book.now self.old.ask self.old.told.items query }
         requires fits { ReplyFits book.now self.old.ask query reply }
         ensures of { OnOk result (IsBoardOf self.new book.now) }
         ensures told { OnOk result (self.new.told.items ≡ self.old.told.items ++ entry_of query reply ∷ []) }
@@ -245,7 +245,7 @@ impl Board {
         reply: Option<Delivery>,
     ) -> Result<(), NoMemory>
         requires of { IsBoardOf self.old book.now }
-        requires fresh { IsOpen book.now self.old.ask self.old.told.items (Query.Reach region stop start) }
+        requires fresh { IsOpenQuery book.now self.old.ask self.old.told.items (Query.Reach region stop start) }
         requires fits { ReplyFits book.now self.old.ask (Query.Reach region stop start) reply }
         ensures of { OnOk result (IsBoardOf self.new book.now) }
         ensures told { OnOk result (self.new.told.items ≡ self.old.told.items ++ entry_of (Query.Reach region stop start) reply ∷ []) }
@@ -297,7 +297,7 @@ impl Board {
         reply: Option<Delivery>,
     ) -> Result<(), NoMemory>
         requires of { IsBoardOf self.old book.now }
-        requires fresh { IsOpen book.now self.old.ask self.old.told.items (Query.Check region stop) }
+        requires fresh { IsOpenQuery book.now self.old.ask self.old.told.items (Query.Check region stop) }
         requires fits { ReplyFits book.now self.old.ask (Query.Check region stop) reply }
         ensures of { OnOk result (IsBoardOf self.new book.now) }
         ensures told { OnOk result (self.new.told.items ≡ self.old.told.items ++ entry_of (Query.Check region stop) reply ∷ []) }

@@ -18,7 +18,7 @@ use Rattle.ojp_records.specs.Places.{ToldCheck, check_of, checks_in, PlaceState,
 use Rattle.ojp_records.specs.Pairs.{Pair, is_way_on, served_goal, ends_towards}
 use Rattle.ojp_records.specs.Starts.{lesser_of, Arrival, arrivals_heard, is_within, arrivals, starts_after, asked_start, known_starts, moment_of, is_at_target, best}
 use Rattle.ojp_records.specs.Wanted.{is_before, can_improve, wanted, Improves, PairWanted}
-use Rattle.ojp_records.specs.Told.{EntryFits, IsOpen, IsRecord, ToldInTurn}
+use Rattle.ojp_records.specs.Told.{EntryFits, IsOpenQuery, IsRecord, ToldInTurn}
 use Rattle.ojp_records.proofs.StartFacts.{IsAsked, IsAfter, known_start_back, known_starts_more, BestBelow, best_below}
 use Rattle.ojp_records.specs.Laws.{AskedStartsFall, StartsAreLow, WantedIsOpen, WantedStartsAreWithin}
 use Rattle.ojp_records.proofs.RecordFacts.{EntryOf, told_is, OpenAt, open_at}
@@ -30,22 +30,22 @@ use Rattle.ojp_records.proofs.Chained.{start_low}
 -- ---- told in turn, and open
 
 -- one more entry, whose query was open, is told in turn
-pub turn_more : (book : Book) (ask : TripAsk) (told later : List Entry) (entry : Entry) → ToldInTurn book ask told later → IsOpen book ask (told ++ later) entry.query → ToldInTurn book ask told (later ++ entry ∷ [])
-turn_more book ask told [] entry turn it = (subst (λ (t : List Entry). IsOpen book ask t entry.query) (append-nil told) it, tt)
+pub turn_more : (book : Book) (ask : TripAsk) (told later : List Entry) (entry : Entry) → ToldInTurn book ask told later → IsOpenQuery book ask (told ++ later) entry.query → ToldInTurn book ask told (later ++ entry ∷ [])
+turn_more book ask told [] entry turn it = (subst (λ (t : List Entry). IsOpenQuery book ask t entry.query) (append-nil told) it, tt)
 turn_more book ask told (first ∷ later) entry turn it =
-    (turn.0, turn_more book ask (told ++ first ∷ []) later entry turn.1 (subst (λ (t : List Entry). IsOpen book ask t entry.query) (sym (append_assoc told (first ∷ []) later)) it))
+    (turn.0, turn_more book ask (told ++ first ∷ []) later entry turn.1 (subst (λ (t : List Entry). IsOpenQuery book ask t entry.query) (sym (append_assoc told (first ∷ []) later)) it))
 
 each_push : (P : Entry → Type 0) (told : List Entry) (entry : Entry) → Each P told → P entry → Each P (told ++ entry ∷ [])
 each_push P [] entry all it = (it, tt)
 each_push P (first ∷ told) entry all it = (all.0, each_push P told entry all.1 it)
 
 -- a record grows by an entry whose query was open, and whose reply fits
-pub record_more : (book : Book) (ask : TripAsk) (told : List Entry) (entry : Entry) → IsRecord book ask told → IsOpen book ask told entry.query → EntryFits book ask entry → IsRecord book ask (told ++ entry ∷ [])
+pub record_more : (book : Book) (ask : TripAsk) (told : List Entry) (entry : Entry) → IsRecord book ask told → IsOpenQuery book ask told entry.query → EntryFits book ask entry → IsRecord book ask (told ++ entry ∷ [])
 record_more book ask told entry it is_open fits =
     record { in_turn = turn_more book ask [] told entry it.in_turn is_open; fits = each_push (EntryFits book ask) told entry it.fits fits }
 
 -- a query stays open until it is told
-pub open_more : (book : Book) (ask : TripAsk) (told more : List Entry) (query : Query) → IsOpen book ask told query → is_told (told ++ more) query ≡ false → IsOpen book ask (told ++ more) query
+pub open_more : (book : Book) (ask : TripAsk) (told more : List Entry) (query : Query) → IsOpenQuery book ask told query → is_told (told ++ more) query ≡ false → IsOpenQuery book ask (told ++ more) query
 open_more book ask told more query it untold =
     record { before = it.before; since = it.since ++ more; split = sym (append_assoc it.before it.since more) ∙ ap (λ (t : List Entry). t ++ more) it.split; was_wanted = it.was_wanted; untold = untold }
 
@@ -183,7 +183,7 @@ pub told_start : (book : Book) (ask : TripAsk) (told : List Entry) (region stop 
 told_start book ask told region stop start turn e =
     let m : EntryOf told (Reach region stop start) = told_is told (Reach region stop start) e in
     let it : OpenAt book ask told m.item = open_at book ask [] told m.item turn m.among in
-    let then : Among start (known_starts book ask it.before stop region) = open_start book ask it.before region stop start (subst (λ (q : Query). IsOpen book ask it.before q) m.holds it.open_then) in
+    let then : Among start (known_starts book ask it.before stop region) = open_start book ask it.before region stop start (subst (λ (q : Query). IsOpenQuery book ask it.before q) m.holds it.open_then) in
     subst (λ (t : List Entry). Among start (known_starts book ask t stop region)) (sym it.split) (known_starts_more book ask it.before (m.item ∷ it.rest) stop region start then)
 
 -- what is before the least known start was never asked: where a least start falls, the new one is neither heard nor failed

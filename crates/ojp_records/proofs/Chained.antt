@@ -27,7 +27,7 @@ use Rattle.ojp_records.proofs.ChainFacts.{AnswersSome, pairwise_at}
 use Rattle.ojp_ways.specs.Ways.{Ways, Reached, FirstRides, NextRides, InTurn, HasKnown, HasHeard}
 use Rattle.ojp_ways.proofs.Sound.{each_is_reached}
 use Rattle.ojp_records.specs.Pairs.{ends_towards, Pair}
-use Rattle.ojp_records.specs.Told.{IsOpen, ToldInTurn, ReplyFits, EntryFits, IsRecord}
+use Rattle.ojp_records.specs.Told.{IsOpenQuery, ToldInTurn, ReplyFits, EntryFits, IsRecord}
 use Rattle.ojp_records.specs.Laws.{BestIsChained}
 
 -- a trip of the record, from the pair's stop at the start to the end
@@ -63,7 +63,7 @@ KnownIn book ask told p l = Among l (known_starts book ask told p.stop p.region)
 
 -- the entry was open, its reply fits, and it is one of all
 record TellsWell (book : Book) (ask : TripAsk) (all told : List Entry) (entry : Entry) : Type 0 where
-  pub open_then : IsOpen book ask told entry.query
+  pub open_then : IsOpenQuery book ask told entry.query
   pub fits : EntryFits book ask entry
   pub listed : Among entry all
 
@@ -108,7 +108,7 @@ some_legs region o t d trip it e = let none : it.first ∷ it.rest ≡ [] = sym 
 
 now_heard :
     (book : Book) (ask : TripAsk) (all told : List Entry) (entry : Entry) (query : Query) (reply : Option Delivery) (q : Pair) (m : ℕ)
-    → entry.query ≡ query → entry.reply ≡ reply → IsOpen book ask told query → EntryFits book ask entry → Among entry all → ReplyFits book ask query reply
+    → entry.query ≡ query → entry.reply ≡ reply → IsOpenQuery book ask told query → EntryFits book ask entry → Among entry all → ReplyFits book ask query reply
     → Among (record { stop = q.stop; region = q.region; moment = m }) (arrivals_heard book ask query reply)
     → HasKnown (by_record book ask all) (KnownIn book ask told) q m
 now_heard book ask all told entry (Check region stop) reply q m eq er open_then own listed fits h = absurd h

@@ -13,14 +13,14 @@ use Rattle.ojp_records.specs.declared.queries.Query.TheVariants.{Check, Reach}
 use Rattle.ojp_records.specs.declared.queries.Entry.{Entry}
 use Rattle.ojp_records.specs.Records.{same_query, is_told}
 use Rattle.ojp_records.specs.Places.{ToldCheck, check_of, checks_in, PlaceState, Known, Unknown, Unheard, CheckFailed, reply_state, is_check, check_state, state_by, place_state, state_after, check}
-use Rattle.ojp_records.specs.Told.{IsOpen}
+use Rattle.ojp_records.specs.Told.{IsOpenQuery}
 use Rattle.ojp_records.proofs.PlaceFacts.{OriginCheck, TargetCheck, AtPair, check_is_it, first_heard, check_state_append, checks_append}
 use Rattle.ojp_records.specs.Wanted.{PairWanted}
 use Rattle.ojp_records.proofs.WantedFacts.{WantedBy, wanted_by, pair_wanted, check_is}
 use Rattle.ojp_records.proofs.BoardFacts.{unheard_place}
 
 -- an open check is of an own stop whose region is one of the book
-pub check_open : (book : Book) (ask : TripAsk) (told : List Entry) (region stop : Text) → IsOpen book ask told (Check region stop) → (home stop ≡ Some region) × (has_region book region ≡ true)
+pub check_open : (book : Book) (ask : TripAsk) (told : List Entry) (region stop : Text) → IsOpenQuery book ask told (Check region stop) → (home stop ≡ Some region) × (has_region book region ≡ true)
 check_open book ask told region stop it = go (wanted_by book ask it.before (Check region stop) it.was_wanted)
   where
     of_place : (place : Text) → place_state book (checks_in it.before) place ≡ Unheard → Among (Check region stop) (check place) → (home stop ≡ Some region) × (has_region book region ≡ true)

@@ -12,7 +12,7 @@ use Rattle.ojp_records.specs.declared.queries.Query.TheVariants.{Check, Reach}
 use Rattle.ojp_records.specs.declared.queries.Entry.{Entry}
 use Rattle.ojp_records.specs.Records.{same_query, is_told, has_reply, is_failed, Failed}
 use Rattle.ojp_records.specs.Places.{ToldCheck, check_of, checks_in, CheckFailed, reply_state, is_check, check_state}
-use Rattle.ojp_records.specs.Told.{IsOpen, ToldInTurn}
+use Rattle.ojp_records.specs.Told.{IsOpenQuery, ToldInTurn}
 use Rattle.ojp_values.proofs.ListFacts.{Member, among_append_left, among_append_right, among_list_any, among_list_any_back}
 use Rattle.ojp_timetable.proofs.TextFacts.{same_is, is_same}
 
@@ -141,12 +141,12 @@ pub record OpenAt (book : Book) (ask : TripAsk) (all : List Entry) (entry : Entr
   pub before : List Entry
   pub rest : List Entry
   pub split : all ≡ before ++ entry ∷ rest
-  pub open_then : IsOpen book ask before entry.query
+  pub open_then : IsOpenQuery book ask before entry.query
 
 pub open_at : (book : Book) (ask : TripAsk) (told later : List Entry) (entry : Entry) → ToldInTurn book ask told later → Among entry later → OpenAt book ask (told ++ later) entry
 open_at book ask told [] entry turn h = absurd h
 open_at book ask told (first ∷ later) entry turn (inl is) =
-    record { before = told; rest = later; split = ap (λ (e : Entry). told ++ e ∷ later) (sym is); open_then = subst (λ (e : Entry). IsOpen book ask told e.query) (sym is) turn.0 }
+    record { before = told; rest = later; split = ap (λ (e : Entry). told ++ e ∷ later) (sym is); open_then = subst (λ (e : Entry). IsOpenQuery book ask told e.query) (sym is) turn.0 }
 open_at book ask told (first ∷ later) entry turn (inr h) =
     let it : OpenAt book ask ((told ++ first ∷ []) ++ later) entry = open_at book ask (told ++ first ∷ []) later entry turn.1 h in
     record { before = it.before; rest = it.rest; split = sym (append_assoc told (first ∷ []) later) ∙ it.split; open_then = it.open_then }

@@ -15,7 +15,7 @@ use Rattle.ojp_records.proofs.StartFacts.{known_starts_more}
 use Rattle.ojp_records.proofs.PlaceFacts.{PlacesWant, OriginCheck, TargetCheck, AtPair, places_want, wanted_of_places}
 use Rattle.ojp_records.specs.Pairs.{ends_towards, Pair, pair_lt, placed, with_own, pair_of, pairs_from}
 use Rattle.ojp_records.specs.Places.{place_state, checks_in, check_by, check}
-use Rattle.ojp_records.specs.Told.{IsOpen}
+use Rattle.ojp_records.specs.Told.{IsOpenQuery}
 
 if_some : {X : Type 0} (b : Bool) (x y : X) → cond b (Some x) None ≡ Some y → (b ≡ true) × (x ≡ y)
 if_some true x y e = (refl, cc)
@@ -133,7 +133,7 @@ unfolding pairs_from pair_at
 own_pair book begin region e known = with_own_itself book begin region (home begin) (map pair_of book.spots) e known
 
 -- the start of a query that was open is known
-pub open_start : (book : Book) (ask : TripAsk) (told : List Entry) (region stop : Text) (start : ℕ) → IsOpen book ask told (Reach region stop start) → Among start (known_starts book ask told stop region)
+pub open_start : (book : Book) (ask : TripAsk) (told : List Entry) (region stop : Text) (start : ℕ) → IsOpenQuery book ask told (Reach region stop start) → Among start (known_starts book ask told stop region)
 open_start book ask told region stop start it =
     subst (λ (record_now : List Entry). Among start (known_starts book ask record_now stop region)) it.split
     (known_starts_more book ask it.before it.since stop region start (go (wanted_by book ask it.before (Reach region stop start) it.was_wanted)))

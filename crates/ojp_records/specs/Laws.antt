@@ -16,7 +16,7 @@ use Rattle.ojp_records.specs.Records.{region_of, same_query}
 use Rattle.ojp_records.specs.Pairs.{Pair, ends_towards, AreInOrder}
 use Rattle.ojp_records.specs.Starts.{known_starts, best}
 use Rattle.ojp_records.specs.Wanted.{Improves, IsNext, next_of, reach_lt, wanted_pairs, PairWanted, wanted}
-use Rattle.ojp_records.specs.Told.{document, IsOpen, IsRecord}
+use Rattle.ojp_records.specs.Told.{document, IsOpenQuery, IsRecord}
 use Rattle.ojp_records.specs.Ends.{fault}
 use Rattle.ojp_records.specs.Headline.{AreTablesOf, AreGiven, EndMeans}
 use Rattle.ojp_records.specs.Chains.{Chained}
@@ -91,7 +91,7 @@ BooksAreInOrder = (tables : List Timetable) (book : Book) → AreTablesOf tables
 
 -- a wanted query is open
 abbrev pub WantedIsOpen : Type 0
-WantedIsOpen = (book : Book) (ask : TripAsk) (told : List Entry) (query : Query) → Among query (wanted book ask told) → IsOpen book ask told query
+WantedIsOpen = (book : Book) (ask : TripAsk) (told : List Entry) (query : Query) → Among query (wanted book ask told) → IsOpenQuery book ask told query
 
 -- where a wanted query fails, just it is wanted no more
 abbrev pub FailureDropsOne : Type 0
@@ -122,6 +122,6 @@ WantedStartsAreWithin =
 abbrev pub OpenIsSure : Type 0
 OpenIsSure =
     (tables : List Timetable) (book : Book) (ask : TripAsk) (told : List Entry) (query : Query) (table : Timetable)
-    → AreTablesOf tables book → ask.origin ≢ ask.target → AreGiven tables book ask told → IsOpen book ask told query
+    → AreTablesOf tables book → ask.origin ≢ ask.target → AreGiven tables book ask told → IsOpenQuery book ask told query
     → Among table tables → table.region ≡ region_of query
     → IsSure table (document book ask query)

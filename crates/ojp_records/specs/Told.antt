@@ -21,7 +21,7 @@ document book ask (Check region stop) = asks.Events (record { stop = stop; start
 document book ask (Reach region stop start) = asks.Multi (record { origin = stop; start = start; targets = ends_towards book ask.target stop region })
 
 -- the query is open: it was wanted at some time before, and nothing was told of it
-pub record IsOpen (book : Book) (ask : TripAsk) (told : List Entry) (query : Query) : Type 0 where
+pub record IsOpenQuery (book : Book) (ask : TripAsk) (told : List Entry) (query : Query) : Type 0 where
   pub before : List Entry
   pub since : List Entry
   pub split : before ++ since ≡ told
@@ -31,7 +31,7 @@ pub record IsOpen (book : Book) (ask : TripAsk) (told : List Entry) (query : Que
 -- each of the later entries was open before it was told
 abbrev pub ToldInTurn : Book → TripAsk → List Entry → List Entry → Type 0
 ToldInTurn book ask told [] = Unit {0}
-ToldInTurn book ask told (entry ∷ later) = IsOpen book ask told entry.query × ToldInTurn book ask (told ++ entry ∷ []) later
+ToldInTurn book ask told (entry ∷ later) = IsOpenQuery book ask told entry.query × ToldInTurn book ask (told ++ entry ∷ []) later
 
 -- a reply fits the subrequest of the query, where there is one
 abbrev pub ReplyFits : Book → TripAsk → Query → Option Delivery → Type 0

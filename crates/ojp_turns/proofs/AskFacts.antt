@@ -17,7 +17,7 @@ use Rattle.ojp_links.specs.Calls.{Keeps}
 use Rattle.ojp_records.specs.declared.queries.Query.{Query}
 use Rattle.ojp_records.specs.declared.queries.Entry.{Entry}
 use Rattle.ojp_records.specs.Records.{region_of}
-use Rattle.ojp_records.specs.Told.{document, IsOpen, IsRecord}
+use Rattle.ojp_records.specs.Told.{document, IsOpenQuery, IsRecord}
 use Rattle.ojp_records.specs.Wanted.{wanted}
 use Rattle.ojp_records.proofs.BoardFacts.{wanted_is_open}
 use Rattle.ojp_labels.specs.Slots.{slots}
@@ -75,7 +75,7 @@ stands_begun book ask told old new subs h region asking it makes is_document is_
         once = apart_map_snoc query_of h subs it.are_open.once missing;
         each = λ g among. elim (among_append g subs (h ∷ []) among) [
           | inl l ↦ it.are_open.each g l
-          | inr r ↦ elim r [ inl e ↦ subst (IsOpen book ask told) (sym (ap query_of e)) (wanted_is_open book ask told h.query is_wanted) | inr n ↦ absurd n ]
+          | inr r ↦ elim r [ inl e ↦ subst (IsOpenQuery book ask told) (sym (ap query_of e)) (wanted_is_open book ask told h.query is_wanted) | inr n ↦ absurd n ]
         ];
       };
     }

@@ -12,7 +12,7 @@ use Rattle.ojp_links.specs.Calls.{OthersStay}
 use Rattle.ojp_records.specs.declared.queries.Query.{Query}
 use Rattle.ojp_records.specs.declared.queries.Entry.{Entry}
 use Rattle.ojp_records.specs.Records.{same_query, is_told}
-use Rattle.ojp_records.specs.Told.{IsOpen}
+use Rattle.ojp_records.specs.Told.{IsOpenQuery}
 use Rattle.ojp_records.proofs.RecordFacts.{same_query_is}
 use Rattle.ojp_turns.specs.declared.kept.Kept.{Kept}
 use Rattle.ojp_turns.specs.Held.{key_of, query_of, NotAmong, AreApart, IsFor, IsForIn, AreLive, AreOpen, StandsIn}
@@ -118,7 +118,7 @@ or_false true b e f = absurd (true≢false e)
 or_false false b e f = f
 
 -- a query that is open stays so where another is told
-pub open_told : (book : Book) (ask : TripAsk) (told : List Entry) (entry : Entry) (query : Query) → query ≢ entry.query → IsOpen book ask told query → IsOpen book ask (told ++ entry ∷ []) query
+pub open_told : (book : Book) (ask : TripAsk) (told : List Entry) (entry : Entry) (query : Query) → query ≢ entry.query → IsOpenQuery book ask told query → IsOpenQuery book ask (told ++ entry ∷ []) query
 unfolding is_told
 open_told book ask told entry query other it =
     record {
@@ -152,7 +152,7 @@ opens_on book ask told h h' rest query are =
       each = λ g among. elim (among_append g rest (h' ∷ []) among) [
         | inl l ↦ are.each g (inr l)
         | inr r ↦ elim r [
-          | inl e ↦ subst (IsOpen book ask told) (sym (ap query_of e ∙ query)) (are.each h (inl refl))
+          | inl e ↦ subst (IsOpenQuery book ask told) (sym (ap query_of e ∙ query)) (are.each h (inl refl))
           | inr n ↦ absurd n
         ]
       ];

@@ -22,7 +22,7 @@ use Rattle.ojp_records.specs.declared.queries.Query.{Query}
 use Rattle.ojp_records.specs.declared.queries.Entry.{Entry}
 use Rattle.ojp_records.specs.Laws.{OpenIsSure}
 use Rattle.ojp_records.specs.Records.{region_of}
-use Rattle.ojp_records.specs.Told.{IsOpen, document}
+use Rattle.ojp_records.specs.Told.{IsOpenQuery, document}
 use Rattle.ojp_subrequests.specs.declared.subreply.SubPoll.TheVariants as polls
 use Rattle.ojp_subrequests.specs.Subrequests.{IsSafe, Polls}
 use Rattle.ojp_subrequests.specs.Hearing.{IsOpenReply}
@@ -53,7 +53,7 @@ got_lost e = cc
 
 -- the whole reply of a server goes on with nothing
 module _ (book : Book) (ask : TripAsk) (told : List Entry) (old new : View) (was : Kept) (now : SubView) (is_for : IsForIn book ask (codes_of old.fixed) old.live was) (sound : IsSound old)
-    (never : SureIsNeverHopeless) (sure : OpenIsSure) (differ : ask.origin ≢ ask.target) (is_open : IsOpen book ask told was.query) (p : Polls old new was.sub now polls.Moved) where
+    (never : SureIsNeverHopeless) (sure : OpenIsSure) (differ : ask.origin ≢ ask.target) (is_open : IsOpenQuery book ask told was.query) (p : Polls old new was.sub now polls.Moved) where
   pub moved_never : PollOrder steps.Moved book ask told old new was
   moved_never order tables tells untaken =
       let x : Live = ask_at old (key_of was) in

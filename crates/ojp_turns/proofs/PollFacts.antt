@@ -19,7 +19,7 @@ use Rattle.ojp_links.specs.Calls.{Keeps, NotRaised, IsPatient, Looks, Drops, Clo
 use Rattle.ojp_records.specs.declared.queries.Query.{Query}
 use Rattle.ojp_records.specs.declared.queries.Entry.{Entry}
 use Rattle.ojp_records.specs.Records.{region_of}
-use Rattle.ojp_records.specs.Told.{document, IsOpen}
+use Rattle.ojp_records.specs.Told.{document, IsOpenQuery}
 use Rattle.ojp_records.specs.Headline.{AreTablesOf, AreGiven, EntryGiven}
 use Rattle.ojp_records.specs.Laws.{OpenIsSure}
 use Rattle.ojp_subrequests.specs.declared.subreply.SubPoll.TheVariants as polls
@@ -220,7 +220,7 @@ module _ (book : Book) (ask : TripAsk) (old : View) (was : Kept) (is_for : IsFor
       )
 
   -- a region is sure of the ask, so that it is never condemned
-  pub is_safe : OpenIsSure → (told : List Entry) → ask.origin ≢ ask.target → IsOpen book ask told was.query
+  pub is_safe : OpenIsSure → (told : List Entry) → ask.origin ≢ ask.target → IsOpenQuery book ask told was.query
       → (tables : List Timetable) → TellsTables old tables → AreTablesOf tables book → AreGiven tables book ask told → IsSafe old was.sub was.sub.expect
   is_safe sure told differ is_open tables tells whole given =
       let it : (n : Numbered tables was.sub.region) × (n.table.region ≡ region_of was.query) = table_of tables tells in

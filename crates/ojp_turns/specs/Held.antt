@@ -9,7 +9,7 @@ use Rattle.ojp_links.specs.Seen.{View, Live, code_in, codes_of}
 use Rattle.ojp_records.specs.declared.queries.Query.{Query}
 use Rattle.ojp_records.specs.declared.queries.Entry.{Entry}
 use Rattle.ojp_records.specs.Records.{region_of}
-use Rattle.ojp_records.specs.Told.{document, IsOpen}
+use Rattle.ojp_records.specs.Told.{document, IsOpenQuery}
 use Rattle.ojp_records.specs.Wanted.{wanted}
 use Rattle.ojp_subrequests.specs.Subrequests.{IsHeldAs}
 use Rattle.ojp_turns.specs.declared.kept.Kept.{Kept}
@@ -56,7 +56,7 @@ pub record AreHeld (subs : List Kept) (v : View) : Type 0 where
 -- the queries of the subrequests are open, each once
 pub record AreOpen (book : Book) (ask : TripAsk) (told : List Entry) (subs : List Kept) : Type 0 where
   pub once : AreApart (map query_of subs)
-  pub each : (kept : Kept) → Among kept subs → IsOpen book ask told kept.query
+  pub each : (kept : Kept) → Among kept subs → IsOpenQuery book ask told kept.query
 
 -- the subrequests are just what is live, and their queries are open
 pub record Stands (book : Book) (ask : TripAsk) (told : List Entry) (subs : List Kept) (codes : List Text) (live : ℕ → Option Live) : Type 0 where

@@ -3,7 +3,7 @@
 ghost use Rattle.std.specs.Prelude.{◌≡◌, ◌≢◌, ◌<◌, length, IfOk, OnErr, None};
 ghost use Rattle.ojp_links.specs.Seen.{codes_of};
 ghost use Rattle.ojp_links.specs.Calls.{Keeps, NotRaised, OthersStay};
-ghost use Rattle.ojp_records.specs.Told.{IsOpen};
+ghost use Rattle.ojp_records.specs.Told.{IsOpenQuery};
 ghost use Rattle.ojp_labels.specs.Boards.{IsBoardOf, ask_of, told_of};
 ghost use Rattle.ojp_turns.specs.Held.{IsForIn, StandsIn, key_of};
 ghost use Rattle.ojp_turns.specs.Faults.{RejectsNone};
@@ -36,7 +36,7 @@ pub enum Step {
 // Tells the board how a subrequest of the query ended.
 fn tell_end(book: &Book, board: &mut Board, query: &Query, end: SubEnd) -> Result<(), NoMemory>
     requires of { IsBoardOf board.old book.now }
-    requires fresh { IsOpen book.now (ask_of board.old) (told_of board.old) query.now }
+    requires fresh { IsOpenQuery book.now (ask_of board.old) (told_of board.old) query.now }
     requires fits { EndFits book.now (ask_of board.old) query.now end }
     ensures of { IsBoardOf board.new book.now }
     ensures ask { ask_of board.new ≡ ask_of board.old }
@@ -60,7 +60,7 @@ fn poll_one<L: Links>(
     requires of { IsBoardOf board.old book.now }
     requires differ { (ask_of board.old).origin ≢ (ask_of board.old).target }
     requires held { IsForIn book.now (ask_of board.old) (codes_of (L.seen links.old).fixed) (L.seen links.old).live kept.old }
-    requires fresh { IsOpen book.now (ask_of board.old) (told_of board.old) kept.old.query }
+    requires fresh { IsOpenQuery book.now (ask_of board.old) (told_of board.old) kept.old.query }
     ensures of { IsBoardOf board.new book.now }
     ensures ask { ask_of board.new ≡ ask_of board.old }
     ensures keeps { Keeps (L.seen links.old) (L.seen links.new) }
