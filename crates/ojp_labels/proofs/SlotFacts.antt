@@ -339,11 +339,11 @@ somes_first None xs query h = inr h
 somes_first (Some q) xs query (inl e) = inl (ap Some (sym e))
 somes_first (Some q) xs query (inr h) = inr h
 
-known_is : (b : Bool) (o : Option Query) (q : Query) → known_slot b o ≡ Some q → o ≡ Some q
+pub known_is : (b : Bool) (o : Option Query) (q : Query) → known_slot b o ≡ Some q → o ≡ Some q
 known_is true o q e = e
 known_is false o q e = absurd (cc)
 
-slot_reach : (book : Book) (ask : TripAsk) (told : List Entry) (pair : Pair) (query : Query) → pair_slot book ask told pair ≡ Some query → (start : ℕ) × (query ≡ reach_at pair start)
+pub slot_reach : (book : Book) (ask : TripAsk) (told : List Entry) (pair : Pair) (query : Query) → pair_slot book ask told pair ≡ Some query → (start : ℕ) × (query ≡ reach_at pair start)
 unfolding pair_slot
 slot_reach book ask told pair query e = let it = wanted_start told pair (improving_start book ask told pair) query e in (it.0, it.2)
 

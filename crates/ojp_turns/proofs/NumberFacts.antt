@@ -18,7 +18,7 @@ use Rattle.ojp_records.specs.Wanted.{improving_start, reach_at, wanted}
 use Rattle.ojp_records.proofs.PairFacts.{no_home}
 use Rattle.ojp_records.proofs.WantedFacts.{wanted_start}
 use Rattle.ojp_labels.specs.Slots.{somes, check_at, origin_slot, target_slot, are_known, known_slot, pair_slot, own_pair_slot, slots_by, slots}
-use Rattle.ojp_labels.proofs.SlotFacts.{slots_wanted}
+use Rattle.ojp_labels.proofs.SlotFacts.{known_is, slot_reach, slots_wanted}
 use Rattle.ojp_turns.specs.Slots.{IsCheckOf, IsOwnReach, IsPlaceReach, MayStandAt, at_origin, at_target, at_own, at_place}
 
 -- ---- what stands at a number
@@ -47,14 +47,6 @@ target_check ask Unheard CheckFailed query e = absurd (cc)
 target_check ask CheckFailed Known query e = absurd (cc)
 target_check ask CheckFailed Unknown query e = absurd (cc)
 target_check ask CheckFailed CheckFailed query e = absurd (cc)
-
-known_is : (b : Bool) (o : Option Query) (q : Query) → known_slot b o ≡ Some q → o ≡ Some q
-known_is true o q e = e
-known_is false o q e = absurd (cc)
-
-slot_reach : (book : Book) (ask : TripAsk) (told : List Entry) (pair : Pair) (query : Query) → pair_slot book ask told pair ≡ Some query → (start : ℕ) × (query ≡ reach_at pair start)
-unfolding pair_slot
-slot_reach book ask told pair query e = let it = wanted_start told pair (improving_start book ask told pair) query e in (it.0, it.2)
 
 own_by : (book : Book) (ask : TripAsk) (told : List Entry) (code : Option Text) (query : Query) → home ask.origin ≡ code → own_pair_slot book ask told code ≡ Some query → IsOwnReach ask query
 own_by book ask told None query own e = absurd (cc)
