@@ -1,0 +1,138 @@
+//! `frequencies.txt`.
+
+use crate::columns::Column;
+use crate::fields::{read_count, read_flag, read_time};
+use crate::files::FeedFile;
+use crate::folder::Folder;
+use crate::ids::put;
+use crate::refusals::FeedRefused;
+use crate::rows::{Rows, take_rows};
+use crate::table::{Table, open};
+use crate::trips::Trips;
+use ojp_feed_rows::{Frequency, Trip};
+use std::alloc::Global;
+use std::io::Read;
+
+/// The longest time between two departures, in seconds.
+const LONGEST_HEADWAY: u32 = 3_600_000;
+
+/// The places of the columns of `frequencies.txt`.
+#[derive(Clone, Copy)]
+struct FrequencyColumns {
+    trip: usize,
+    start: usize,
+    end: usize,
+    headway: usize,
+    exact: Option<usize>,
+}
+
+/// The trips with the rows so far.
+#[derive(Drop)]
+struct FrequencyRows {
+    columns: FrequencyColumns,
+    trips: Trips,
+}
+
+/// The trips with their rows; those that have no trip are counted.
+pub(crate) fn read_frequencies<D: Folder>(
+    alloc: Global,
+    folder: &mut D,
+    trips: Trips,
+) -> Result<Trips, FeedRefused> {
+    match open(alloc, folder, FeedFile::Frequencies)? {
+        Some(table) => with_frequencies(alloc, table, trips),
+        None => Ok(trips),
+    }
+}
+
+fn with_frequencies<F: Read + Drop>(
+    alloc: Global,
+    rows: Table<F>,
+    trips: Trips,
+) -> Result<Trips, FeedRefused> {
+    let mut table = rows;
+    let mut rows = FrequencyRows {
+        columns: frequency_columns(&table)?,
+        trips,
+    };
+    take_rows(alloc, &mut table, &mut rows)?;
+    Ok(rows.trips)
+}
+
+fn frequency_columns<F: Read + Drop>(table: &Table<F>) -> Result<FrequencyColumns, FeedRefused> {
+    Ok(FrequencyColumns {
+        trip: table.needed(Column::TripId)?,
+        start: table.needed(Column::StartTime)?,
+        end: table.needed(Column::EndTime)?,
+        headway: table.needed(Column::HeadwaySecs)?,
+        exact: table.place(Column::ExactTimes),
+    })
+}
+
+impl Rows for FrequencyRows {
+    fn take_row<F: Read + Drop>(&mut self, _: Global, table: &Table<F>) -> Result<(), FeedRefused> {
+        let frequency = frequency_of(table, self.columns)?;
+        match self.trips.ids.number(table.field(self.columns.trip)) {
+            Some(trip) => add_frequency(&mut self.trips.trips, trip, frequency),
+            None => {
+                self.trips.stray_frequencies = self.trips.stray_frequencies.saturating_add(1);
+                Ok(())
+            }
+        }
+    }
+}
+
+/// Puts the row to the trip of that number.
+fn add_frequency(
+    trips: &mut Vec<Trip>,
+    trip: u32,
+    frequency: Frequency,
+) -> Result<(), FeedRefused> {
+    match trips.get_mut(trip as usize) {
+        Some(trip) => put(&mut trip.frequencies, frequency),
+        None => Ok(()),
+    }
+}
+
+fn frequency_of<F: Read + Drop>(
+    table: &Table<F>,
+    columns: FrequencyColumns,
+) -> Result<Frequency, FeedRefused> {
+    let start = table.value(
+        read_time(table.field(columns.start).as_bytes()),
+        Column::StartTime,
+    )?;
+    let end = table.value(
+        read_time(table.field(columns.end).as_bytes()),
+        Column::EndTime,
+    )?;
+    let headway = table.value(
+        read_headway(table.field(columns.headway).as_bytes()),
+        Column::HeadwaySecs,
+    )?;
+    let exact = table.value(
+        read_exact(table.field_of(columns.exact)),
+        Column::ExactTimes,
+    )?;
+    Ok(Frequency {
+        start,
+        end,
+        headway,
+        exact,
+    })
+}
+
+fn read_headway(text: &[u8]) -> Option<u32> {
+    match read_count(text, LONGEST_HEADWAY) {
+        Some(0) => None,
+        headway => headway,
+    }
+}
+
+/// `exact_times`, which may be empty.
+fn read_exact(text: &str) -> Option<bool> {
+    if text.is_empty() {
+        return Some(false);
+    }
+    read_flag(text)
+}

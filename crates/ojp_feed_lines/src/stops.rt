@@ -1,0 +1,125 @@
+//! `stops.txt`.
+
+use crate::columns::Column;
+use crate::fields::read_location;
+use crate::files::FeedFile;
+use crate::folder::Folder;
+use crate::ids::{Ids, owned, put};
+use crate::refusals::FeedRefused;
+use crate::rows::{Rows, take_rows};
+use crate::table::{Table, open_needed};
+use ojp_feed_rows::Stop;
+use std::alloc::Global;
+use std::io::Read;
+
+/// The stops with their ids, and the rows whose parent is no stop.
+#[derive(Drop)]
+pub(crate) struct Stops {
+    pub ids: Ids,
+    pub stops: Vec<Stop>,
+    pub unknown_parents: u64,
+}
+
+/// The places of the columns of `stops.txt`.
+#[derive(Clone, Copy)]
+struct StopColumns {
+    id: usize,
+    name: Option<usize>,
+    kind: Option<usize>,
+    parent: Option<usize>,
+}
+
+/// The stops so far, without their parents, whose ids stand beside them.
+#[derive(Drop)]
+struct StopRows {
+    columns: StopColumns,
+    ids: Ids,
+    stops: Vec<Stop>,
+    parents: Vec<String>,
+}
+
+pub(crate) fn read_stops<D: Folder>(alloc: Global, folder: &mut D) -> Result<Stops, FeedRefused> {
+    let mut table = open_needed(alloc, folder, FeedFile::Stops)?;
+    let mut rows = StopRows {
+        columns: stop_columns(&table)?,
+        ids: Ids::new(alloc),
+        stops: Vec::new(alloc),
+        parents: Vec::new(alloc),
+    };
+    take_rows(alloc, &mut table, &mut rows)?;
+    Ok(with_parents(rows))
+}
+
+fn stop_columns<F: Read + Drop>(table: &Table<F>) -> Result<StopColumns, FeedRefused> {
+    Ok(StopColumns {
+        id: table.needed(Column::StopId)?,
+        name: table.place(Column::StopName),
+        kind: table.place(Column::LocationType),
+        parent: table.place(Column::ParentStation),
+    })
+}
+
+impl Rows for StopRows {
+    fn take_row<F: Read + Drop>(
+        &mut self,
+        alloc: Global,
+        table: &Table<F>,
+    ) -> Result<(), FeedRefused> {
+        let columns = self.columns;
+        self.ids.add_row(alloc, table, columns.id, Column::StopId)?;
+        put(&mut self.stops, stop_of(alloc, table, columns)?)?;
+        put(
+            &mut self.parents,
+            owned(alloc, table.field_of(columns.parent))?,
+        )
+    }
+}
+
+/// The stop of the row, without its parent.
+fn stop_of<F: Read + Drop>(
+    alloc: Global,
+    table: &Table<F>,
+    columns: StopColumns,
+) -> Result<Stop, FeedRefused> {
+    let kind = read_location(table.field_of(columns.kind));
+    let kind = table.value(kind, Column::LocationType)?;
+    let id = owned(alloc, table.field(columns.id))?;
+    let name = owned(alloc, table.field_of(columns.name))?;
+    Ok(Stop {
+        kind,
+        id,
+        name,
+        parent: None,
+    })
+}
+
+/// The stops with their parents, and how many of these are no stops.
+fn with_parents(rows: StopRows) -> Stops {
+    let mut stops = rows.stops;
+    let unknown_parents = set_parents(&rows.ids, &rows.parents, &mut stops);
+    Stops {
+        ids: rows.ids,
+        stops,
+        unknown_parents,
+    }
+}
+
+/// Gives each stop the number of its parent, and counts the parents that are no stops.
+fn set_parents(ids: &Ids, parents: &[String], stops: &mut Vec<Stop>) -> u64 {
+    let mut unknown = 0u64;
+    for place in 0..parents.len() {
+        let parent = parents[place].as_str();
+        let number = ids.number(parent);
+        set_parent(stops, place, number);
+        if number.is_none() && !parent.is_empty() {
+            unknown = unknown.saturating_add(1);
+        }
+    }
+    unknown
+}
+
+fn set_parent(stops: &mut Vec<Stop>, place: usize, parent: Option<u32>) {
+    if let Some(stop) = stops.get_mut(place) {
+        stop.parent = parent;
+    }
+}

@@ -1,0 +1,171 @@
+//! `transfers.txt`.
+
+use crate::columns::Column;
+use crate::fields::read_count;
+use crate::files::FeedFile;
+use crate::folder::Folder;
+use crate::ids::{Ids, put};
+use crate::refusals::FeedRefused;
+use crate::rows::{Rows, take_rows};
+use crate::table::{Table, open};
+use ojp_feed_rows::Transfer;
+use std::alloc::Global;
+use std::io::Read;
+
+/// The places of the columns of `transfers.txt`.
+#[derive(Clone, Copy)]
+struct TransferColumns {
+    from: usize,
+    to: usize,
+    kind: Option<usize>,
+    seconds: Option<usize>,
+    /// Of a route or a trip.
+    special: [Option<usize>; 4],
+}
+
+/// What a row is.
+#[derive(Clone, Copy)]
+enum Row {
+    Timed(Transfer),
+    Untimed,
+    Special,
+    Typed,
+}
+
+/// The rows that ask for a time within stops, and how many others there are of each kind.
+#[derive(Drop)]
+pub(crate) struct Transfers {
+    pub transfers: Vec<Transfer>,
+    pub untimed: u64,
+    pub special: u64,
+    pub typed: u64,
+}
+
+/// The transfers so far.
+#[derive(Drop)]
+struct TransferRows<'a> {
+    columns: TransferColumns,
+    stops: &'a Ids,
+    transfers: Transfers,
+}
+
+/// The transfers, by the ids of stops.
+pub(crate) fn read_transfers<D: Folder>(
+    alloc: Global,
+    folder: &mut D,
+    stops: &Ids,
+) -> Result<Transfers, FeedRefused> {
+    match open(alloc, folder, FeedFile::Transfers)? {
+        Some(table) => transfers_of(alloc, table, stops),
+        None => Ok(no_transfers(alloc)),
+    }
+}
+
+fn no_transfers(alloc: Global) -> Transfers {
+    Transfers {
+        transfers: Vec::new(alloc),
+        untimed: 0,
+        special: 0,
+        typed: 0,
+    }
+}
+
+fn transfers_of<F: Read + Drop>(
+    alloc: Global,
+    rows: Table<F>,
+    stops: &Ids,
+) -> Result<Transfers, FeedRefused> {
+    let mut table = rows;
+    let mut rows = TransferRows {
+        columns: transfer_columns(&table)?,
+        stops,
+        transfers: no_transfers(alloc),
+    };
+    take_rows(alloc, &mut table, &mut rows)?;
+    Ok(rows.transfers)
+}
+
+fn transfer_columns<F: Read + Drop>(table: &Table<F>) -> Result<TransferColumns, FeedRefused> {
+    Ok(TransferColumns {
+        from: table.needed(Column::FromStopId)?,
+        to: table.needed(Column::ToStopId)?,
+        kind: table.place(Column::TransferType),
+        seconds: table.place(Column::MinTransferTime),
+        special: [
+            table.place(Column::FromRouteId),
+            table.place(Column::ToRouteId),
+            table.place(Column::FromTripId),
+            table.place(Column::ToTripId),
+        ],
+    })
+}
+
+impl Rows for TransferRows<'_> {
+    fn take_row<F: Read + Drop>(&mut self, _: Global, table: &Table<F>) -> Result<(), FeedRefused> {
+        let transfers = &mut self.transfers;
+        match row_of(table, self.columns, self.stops)? {
+            Row::Timed(transfer) => put(&mut transfers.transfers, transfer)?,
+            Row::Untimed => transfers.untimed = transfers.untimed.saturating_add(1),
+            Row::Special => transfers.special = transfers.special.saturating_add(1),
+            Row::Typed => transfers.typed = transfers.typed.saturating_add(1),
+        }
+        Ok(())
+    }
+}
+
+fn row_of<F: Read + Drop>(
+    table: &Table<F>,
+    columns: TransferColumns,
+    stops: &Ids,
+) -> Result<Row, FeedRefused> {
+    let kind = table.value(
+        read_kind(table.field_of(columns.kind).as_bytes()),
+        Column::TransferType,
+    )?;
+    let seconds = table.value(
+        read_seconds(table.field_of(columns.seconds).as_bytes()),
+        Column::MinTransferTime,
+    )?;
+    if kind >= 3 {
+        return Ok(Row::Typed);
+    }
+    let (Some(from), Some(to)) = (
+        stops.number(table.field(columns.from)),
+        stops.number(table.field(columns.to)),
+    ) else {
+        return Ok(Row::Special);
+    };
+    if is_special(table, columns) {
+        return Ok(Row::Special);
+    }
+    match seconds {
+        Some(seconds) if kind == 2 => Ok(Row::Timed(Transfer { from, to, seconds })),
+        _ => Ok(Row::Untimed),
+    }
+}
+
+fn is_special<F: Read + Drop>(table: &Table<F>, columns: TransferColumns) -> bool {
+    columns
+        .special
+        .iter()
+        .any(|place| !table.field_of(*place).is_empty())
+}
+
+/// A `transfer_type`, which may be empty.
+fn read_kind(text: &[u8]) -> Option<u32> {
+    if text.is_empty() {
+        return Some(0);
+    }
+    read_count(text, 5)
+}
+
+/// A `min_transfer_time`, where the field is not empty.
+fn read_seconds(text: &[u8]) -> Option<Option<u32>> {
+    if text.is_empty() {
+        return Some(None);
+    }
+    match read_count(text, u32::MAX) {
+        Some(seconds) => Some(Some(seconds)),
+        None => None,
+    }
+}

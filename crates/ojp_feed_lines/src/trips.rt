@@ -1,0 +1,136 @@
+//! `trips.txt`.
+
+use crate::columns::Column;
+use crate::files::FeedFile;
+use crate::folder::Folder;
+use crate::ids::{Ids, owned, put};
+use crate::refusals::FeedRefused;
+use crate::rows::{Rows, take_rows};
+use crate::table::{Table, open_needed};
+use ojp_feed_rows::Trip;
+use std::alloc::Global;
+use std::io::Read;
+
+/// The trips with their ids, and what is counted of rows that are about them.
+#[derive(Drop)]
+pub(crate) struct Trips {
+    pub ids: Ids,
+    pub trips: Vec<Trip>,
+    /// Trips that follow another of their block.
+    pub chained: u64,
+    /// Rows of `frequencies.txt` without a trip.
+    pub stray_frequencies: u64,
+    /// Rows of `stop_times.txt` without a trip.
+    pub stray_stop_times: u64,
+    /// Rows of `stop_times.txt` that promise boarding on the way.
+    pub continuous: u64,
+}
+
+/// The places of the columns of `trips.txt`.
+#[derive(Clone, Copy)]
+struct TripColumns {
+    id: usize,
+    route: usize,
+    service: usize,
+    block: Option<usize>,
+}
+
+/// What the rows refer to.
+#[derive(Clone, Copy)]
+struct Known<'a> {
+    routes: &'a Ids,
+    services: &'a Ids,
+}
+
+/// The trips so far, and the blocks that they name.
+#[derive(Drop)]
+struct TripRows<'a> {
+    columns: TripColumns,
+    known: Known<'a>,
+    trips: Trips,
+    blocks: Ids,
+}
+
+/// The trips, by the ids of routes and services.
+pub(crate) fn read_trips<D: Folder>(
+    alloc: Global,
+    folder: &mut D,
+    routes: &Ids,
+    services: &Ids,
+) -> Result<Trips, FeedRefused> {
+    let mut table = open_needed(alloc, folder, FeedFile::Trips)?;
+    let mut rows = TripRows {
+        columns: trip_columns(&table)?,
+        known: Known { routes, services },
+        trips: no_trips(alloc),
+        blocks: Ids::new(alloc),
+    };
+    take_rows(alloc, &mut table, &mut rows)?;
+    Ok(rows.trips)
+}
+
+fn no_trips(alloc: Global) -> Trips {
+    Trips {
+        ids: Ids::new(alloc),
+        trips: Vec::new(alloc),
+        chained: 0,
+        stray_frequencies: 0,
+        stray_stop_times: 0,
+        continuous: 0,
+    }
+}
+
+fn trip_columns<F: Read + Drop>(table: &Table<F>) -> Result<TripColumns, FeedRefused> {
+    Ok(TripColumns {
+        id: table.needed(Column::TripId)?,
+        route: table.needed(Column::RouteId)?,
+        service: table.needed(Column::ServiceId)?,
+        block: table.place(Column::BlockId),
+    })
+}
+
+impl Rows for TripRows<'_> {
+    fn take_row<F: Read + Drop>(
+        &mut self,
+        alloc: Global,
+        table: &Table<F>,
+    ) -> Result<(), FeedRefused> {
+        let columns = self.columns;
+        add_trip(alloc, table, columns, self.known, &mut self.trips)?;
+        if is_chained(alloc, table.field_of(columns.block), &mut self.blocks)? {
+            self.trips.chained = self.trips.chained.saturating_add(1);
+        }
+        Ok(())
+    }
+}
+
+fn add_trip<F: Read + Drop>(
+    alloc: Global,
+    table: &Table<F>,
+    columns: TripColumns,
+    known: Known<'_>,
+    trips: &mut Trips,
+) -> Result<(), FeedRefused> {
+    trips.ids.add_row(alloc, table, columns.id, Column::TripId)?;
+    let id = owned(alloc, table.field(columns.id))?;
+    put(
+        &mut trips.trips,
+        Trip {
+            id,
+            route: known.routes.number(table.field(columns.route)),
+            service: known.services.number(table.field(columns.service)),
+            has_unknown_stop: false,
+            stop_times: Vec::new(alloc),
+            frequencies: Vec::new(alloc),
+        },
+    )
+}
+
+/// Whether the block stands in a row above; else it is noted.
+fn is_chained(alloc: Global, block: &str, blocks: &mut Ids) -> Result<bool, FeedRefused> {
+    if block.is_empty() {
+        return Ok(false);
+    }
+    let added = blocks.add(alloc, block)?;
+    Ok(!added)
+}
