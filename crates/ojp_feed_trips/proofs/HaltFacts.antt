@@ -1,10 +1,9 @@
 -- Halts that are added, joined and left out.
-use Rattle.std.proofs.Common.{◌≡◌, ℕ, zero, suc, ◌+◌, ◌<◌, ◌≤◌, ◌&&◌, Bool, true, false, cond, List, [], ◌∷◌, ◌++◌, length, get_or, Option, Some, refl, sym, subst, ap, ◌∙◌, arith}
+use Rattle.std.proofs.Common.{◌≡◌, ℕ, zero, suc, ◌+◌, ◌<◌, ◌≤◌, Bool, true, false, cond, List, [], ◌∷◌, ◌++◌, length, get_or, refl, sym, subst, ◌∙◌, arith}
 use Rattle.std.specs.List.{All, AllPairs, filter}
 use Rattle.std.proofs.lemmas.List.Elements.{All-cons, All-head, All-nil, All-push, All-tail}
 use Rattle.std.proofs.lemmas.List.{get_or_append_left, get_or_push, length_push}
 use Rattle.std.proofs.lemmas.List.Quantifiers.{all_pairs_push}
-use Rattle.std.proofs.lemmas.Grind.{common_steps}
 use Rattle.ojp_feed_rows.specs.declared.trips.StopTime.{StopTime}
 use Rattle.ojp_feed_trips.specs.Halts.{AreFirstHalts, AreHalts, IsAbove, IsHalt, first_boarding, joined, last_alighting, open_halts, stays}
 use Rattle.ojp_feed_trips.specs.declared.halts.Halt.{Halt}

@@ -1,1 +1,2 @@
 pub mod HaltFacts
+pub mod StartFacts

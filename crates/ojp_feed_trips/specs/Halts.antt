@@ -1,5 +1,5 @@
 -- The halts of a trip, and the rows that they stem from.
-use Rattle.std.specs.Prelude.{◌≡◌, ℕ, ◌<◌, ◌≤◌, ◌&&◌, ◌||◌, Bool, false, ◌==◌, List, [], ◌∷◌, cond, Option, Some, None, option_map, unwrap_or, slice_get, slice_index_or, length}
+use Rattle.std.specs.Prelude.{◌≡◌, ℕ, ◌<◌, ◌≤◌, ◌&&◌, ◌||◌, Bool, false, ◌==◌, List, cond, Option, Some, None, option_map, unwrap_or, slice_get, slice_index_or, length}
 use Rattle.std.specs.List.{All, AllPairs, filter, find, fold}
 use Rattle.std.specs.Option.{option_or}
 use Rattle.ojp_feed_rows.specs.declared.trips.StopTime.{StopTime}

@@ -1,8 +1,8 @@
 //! The departures of a trip.
 
-ghost use Rattle.std.specs.Prelude.{◌≡◌, ◌∷◌, ◌++◌, [], IfOk, OnOk};
+ghost use Rattle.std.specs.Prelude.{◌≡◌, ◌+◌, ◌-◌, ◌∷◌, ◌++◌, [], length, take, IfOk, OnOk};
 ghost use Rattle.std.specs.List.{All};
-ghost use Rattle.ojp_feed_trips.specs.Starts.{AddsRepeats, IsStart};
+ghost use Rattle.ojp_feed_trips.specs.Starts.{AddsRepeats, IsStart, departures, repeats};
 
 use crate::checks::begin;
 use ojp_feed_rows::{Frequency, Trip};
@@ -12,7 +12,8 @@ use std::alloc::Global;
 /// The departures of the trip from its first row, in seconds of the service day: the one of the row, or those of its rows of
 /// `frequencies.txt`, no more than one above `most`.
 pub fn starts_of(alloc: Global, trip: &Trip, most: usize) -> Result<Vec<u32>, NoMemory>
-    ensures { IfOk result (λ starts. All (IsStart trip.now) starts.items) }
+    ensures stem { IfOk result (λ starts. All (IsStart trip.now) starts.items) }
+    ensures all { IfOk result (λ starts. starts.items ≡ take (most + 1) (departures trip.now)) }
 {
     let mut starts = Vec::new(alloc);
     if trip.frequencies.is_empty() {
@@ -27,15 +28,17 @@ pub fn starts_of(alloc: Global, trip: &Trip, most: usize) -> Result<Vec<u32>, No
 
 // Adds the departures of a row of `frequencies.txt`, while there are no more than so many.
 fn repeat(starts: &mut Vec<u32>, row: &Frequency, most: usize) -> Result<(), NoMemory>
-    ensures { OnOk result (AddsRepeats row.now starts.old.items starts.new.items) }
+    ensures stem { OnOk result (AddsRepeats row.now starts.old.items starts.new.items) }
+    ensures all { OnOk result (starts.new.items ≡ starts.old.items ++ take ((most + 1) - length starts.old.items) (repeats row.now)) }
 {
+    let close = row.end;
     let headway = row.headway.max(1);
     let mut next = row.start;
-    'departures: while next < row.end && starts.len() <= most {
+    'departures: while next < close && starts.len() <= most {
         put(starts, next)?;
         next = match next.checked_add(headway) {
             Some(behind) => behind,
-            None => row.end,
+            None => close,
         };
     }
     Ok(())

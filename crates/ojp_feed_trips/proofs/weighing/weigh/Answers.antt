@@ -1,4 +1,4 @@
-use Rattle.std.proofs.Common.{◌≡◌, List, refl, subst, ap, ◌∙◌, arith}
+use Rattle.std.proofs.Common.{List, refl, subst, ap, ◌∙◌, arith}
 use Rattle.ojp_feed_rows.specs.declared.trips.StopTime.{StopTime}
 use Rattle.ojp_feed_trips.specs.Halts.{AreHalts, first_departure, open_halts}
 use Rattle.ojp_feed_trips.proofs.HaltFacts.{open_stem}
