@@ -1,11 +1,12 @@
 //! Labels of many ids, each of its own.
 
-ghost use Rattle.std.specs.Prelude.{◌≡◌, ◌≤◌, ◌<◌, length, IfOk, IfErr};
+ghost use Rattle.std.specs.Prelude.{◌≡◌, ◌≤◌, ◌∷◌, ◌++◌, [], length, IfErr, IfOk, OnOk};
+ghost use Rattle.ojp_feed_labels.specs.Doubles.{AreTwoOf};
 
 use crate::hashes::hashed;
 use crate::labels::label_of;
 use indexmap::IndexMap;
-use ojp_values::{Label, List};
+use ojp_values::{Label, List, NoMemory};
 use std::alloc::Global;
 
 /// Why ids get no labels: the hashed forms of two of them are one, or there is no memory. The numbers are those of the ids.
@@ -20,9 +21,12 @@ pub enum LabelsRefused {
 pub fn own_labels(alloc: Global, ids: &[&str], most: usize) -> Result<List<Label>, LabelsRefused>
     requires room { 10 ≤ most }
     requires fits { most ≤ 32 }
-    ensures { IfOk result (λ labels. length labels ≡ length ids.now) }
+    ensures each { IfOk result (λ labels. length labels ≡ length ids.now) }
+    ensures refused { IfErr result (AreTwoOf (length ids.now)) }
 {
-    let marks = doubled(alloc, ids, most)?;
+    let Ok(marks) = doubled(alloc, ids, most) else {
+        return Err(LabelsRefused::NoMemory);
+    };
     let mut labels = List::new(alloc);
     let mut seen = IndexMap::new(alloc);
     for (second, id) in ids.iter().enumerate() {
@@ -32,11 +36,21 @@ pub fn own_labels(alloc: Global, ids: &[&str], most: usize) -> Result<List<Label
             Ok(Some(first)) => return Err(LabelsRefused::Doubled { first, second }),
             Err(_) => return Err(LabelsRefused::NoMemory),
         }
-        if labels.push(label).is_err() {
+        let Ok(()) = put(&mut labels, label) else {
             return Err(LabelsRefused::NoMemory);
-        }
+        };
     }
     Ok(labels)
+}
+
+// Adds the label.
+fn put(labels: &mut List<Label>, label: Label) -> Result<(), NoMemory>
+    ensures { OnOk result (labels.new ≡ labels.old ++ label ∷ []) }
+{
+    match labels.push(label) {
+        Ok(()) => Ok(()),
+        Err(_) => Err(NoMemory),
+    }
 }
 
 // The label of an id, in the hashed form where it is one of doubled ones that is not its id.
@@ -61,12 +75,12 @@ fn is_marked(marks: &[bool], place: usize) -> bool {
 }
 
 // For each id whether another one has its label.
-fn doubled(alloc: Global, ids: &[&str], most: usize) -> Result<Vec<bool>, LabelsRefused>
+fn doubled(alloc: Global, ids: &[&str], most: usize) -> Result<Vec<bool>, NoMemory>
     requires room { 10 ≤ most }
     requires fits { most ≤ 32 }
 {
     let Ok(mut marks) = vec![in alloc; false; ids.len()] else {
-        return Err(LabelsRefused::NoMemory);
+        return Err(NoMemory);
     };
     let mut seen = IndexMap::new(alloc);
     for (place, id) in ids.iter().enumerate() {
@@ -76,7 +90,7 @@ fn doubled(alloc: Global, ids: &[&str], most: usize) -> Result<Vec<bool>, Labels
                 mark(&mut marks, first);
                 mark(&mut marks, place);
             }
-            Err(_) => return Err(LabelsRefused::NoMemory),
+            Err(_) => return Err(NoMemory),
         }
     }
     Ok(marks)
