@@ -14,7 +14,7 @@ use Rattle.ojp_feed_rows.specs.declared.trips.Trip.{Trip}
 use Rattle.ojp_feed_trips.specs.Starts.{IsStart}
 use Rattle.ojp_feed_trips.specs.declared.weighing.Pattern.{Pattern}
 use Rattle.ojp_feed_plans.specs.Days.{AreBoxes, AreBoxesIn, boxes_at, boxes_of_service, is_within, runs}
-use Rattle.ojp_feed_plans.specs.Journeys.{IsJourneyOf, IsMade, IsMadeOf, IsOfStart, IsOfTrip, RunsOn}
+use Rattle.ojp_feed_plans.specs.Journeys.{IsJourneyOf, IsMade, IsMadeOf, IsOfPattern, IsOfStart, IsOfTrip, RunsOn}
 use Rattle.ojp_feed_plans.specs.declared.plans.PlannedJourney.{PlannedJourney}
 
 all_zip_at : {A B : Type 0} (R : A → B → Type 0) (xs : List A) (ys : List B) (k : ℕ) (y : B) → AllZip R xs ys → slice_get ys k ≡ Some y → (x : A) × (slice_get xs k ≡ Some x) × R x y
@@ -90,15 +90,14 @@ for_start trip starts i d number named days journey all h same of = record {
 }
 
 -- and for one of the patterns
-pub of_pattern : (feed : Feed) (patterns : List Pattern) (all : List (List DayBox)) (pattern : Pattern) (trip : Trip) (number : ℕ) (days : List DayBox) (journey : PlannedJourney) → AreBoxesIn feed all
-    → slice_get patterns number ≡ Some pattern → slice_get feed.trips.items pattern.trip ≡ Some trip → days ≡ boxes_of_service all trip.service → IsOfTrip trip number days journey
-    → IsJourneyOf feed patterns journey
-of_pattern feed patterns all pattern trip number days journey are pattern_at trip_at same of =
+pub of_pattern : (feed : Feed) (patterns : List Pattern) (all : List (List DayBox)) (pattern : Pattern) (number : ℕ) (journey : PlannedJourney) → AreBoxesIn feed all → slice_get patterns number ≡ Some pattern
+    → IsOfPattern feed all number pattern journey → IsJourneyOf feed patterns journey
+of_pattern feed patterns all pattern number journey are pattern_at of =
     journey_is feed patterns all are journey (record {
       pattern = pattern;
-      trip = trip;
-      pattern_at = ap (slice_get patterns) of.of ∙ pattern_at;
-      trip_at = trip_at;
-      departs = of.departs;
-      on = subst (λ (bs : List DayBox). Contains bs journey.days) same of.on;
+      trip = of.trip;
+      pattern_at = ap (slice_get patterns) of.is.of ∙ pattern_at;
+      trip_at = of.at;
+      departs = of.is.departs;
+      on = of.is.on;
     })

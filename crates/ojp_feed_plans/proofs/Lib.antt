@@ -2,3 +2,5 @@ pub mod AddingFacts
 pub mod DayFacts
 pub mod FateFacts
 pub mod JourneyFacts
+pub mod RefusalFacts
+pub mod RunFacts

@@ -2,4 +2,5 @@ pub mod Adding
 pub mod Days
 pub mod Journeys
 pub mod Plans
+pub mod Refusals
 pub mod Tallies

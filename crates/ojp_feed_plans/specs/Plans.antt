@@ -7,7 +7,7 @@ use Rattle.ojp_feed_trips.specs.declared.fates.Fate.TheVariants.{Written}
 use Rattle.ojp_feed_trips.specs.declared.weighing.Pattern.{Pattern}
 use Rattle.ojp_feed_trips.specs.declared.weighing.Weighed.{Weighed}
 use Rattle.ojp_feed_trips.specs.declared.weighing.Weighed.TheVariants.{Written as AsPattern, Left}
-use Rattle.ojp_feed_plans.specs.Journeys.{IsJourneyOf, IsPatternOf}
+use Rattle.ojp_feed_plans.specs.Journeys.{AreComplete, IsJourneyOf, IsPatternOf}
 use Rattle.ojp_feed_plans.specs.Tallies.{tally_of, total}
 use Rattle.ojp_feed_plans.specs.declared.plans.Plan.{Plan}
 
@@ -56,7 +56,12 @@ pub record IsSound (feed : Feed) (plan : Plan) : Type 0 where
   pub patterns : All (IsPatternOf feed plan.of_stop.items) plan.patterns.items
   pub journeys : All (IsJourneyOf feed plan.patterns.items) plan.journeys.items
 
--- each trip that is written or left out, counted once, and each journey as its trip has it
+-- each departure of each trip that is written has its journeys on all days of the trip
+abbrev pub IsComplete : Feed → Plan → Type 0
+IsComplete feed plan = AreComplete feed plan.patterns.items plan.journeys.items
+
+-- each trip that is written or left out, counted once, and each journey as its trip has it, and all of these
 pub record IsPlanOf (feed : Feed) (plan : Plan) : Type 0 where
   pub adds_up : AddsUp feed plan
   pub sound : IsSound feed plan
+  pub complete : IsComplete feed plan

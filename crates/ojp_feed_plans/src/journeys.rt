@@ -1,10 +1,12 @@
 //! The journeys of a plan.
 
-ghost use Rattle.std.specs.Prelude.{◌≡◌, map, IfOk, OnOk};
+ghost use Rattle.std.specs.Prelude.{◌≡◌, ◌+◌, ◌*◌, ◌≤◌, ◌∷◌, ◌++◌, [], length, map, option_copied, slice_get, IfErr, IfOk, OnOk};
 ghost use Rattle.std.specs.List.{All};
 ghost use Rattle.ojp_feed_plans.specs.Adding.{Adds};
 ghost use Rattle.ojp_feed_plans.specs.Days.{AreBoxesIn};
-ghost use Rattle.ojp_feed_plans.specs.Journeys.{IsJourneyOf, IsMade, IsOfStart, IsOfTrip};
+ghost use Rattle.ojp_feed_plans.specs.Journeys.{AreAllRuns, IsJourneyOf, IsMade, IsOfPattern, IsOfStart, IsOfTrip, run_of, runs_at, runs_of_start, runs_of_starts};
+ghost use Rattle.ojp_feed_plans.specs.Refusals.{AreIdsRefused, AreJourneysRefused, AreLabelsRefused, IsPast, trip_number};
+ghost use Rattle.ojp_feed_trips.specs.Starts.{departures};
 
 use crate::memory::put;
 use crate::plans::PlannedJourney;
@@ -31,7 +33,6 @@ pub struct Journeys {
     pub calls: usize,
     pub labels: u64,
     trips: IndexMap<Label, usize>,
-    seen: IndexMap<Label, usize>,
 }
 
 /// The journeys of the patterns, where the services of the feed have these days.
@@ -42,41 +43,52 @@ pub fn journeys_of(
     boxes: &[Vec<DayBox>],
 ) -> Result<Journeys, PlanRefused>
     requires { AreBoxesIn feed.now (map (λ boxes. boxes.items) boxes.now) }
-    ensures { IfOk result (λ made. All (IsJourneyOf feed.now patterns.now) made.journeys.items) }
+    ensures stem { IfOk result (λ made. All (IsJourneyOf feed.now patterns.now) made.journeys.items) }
+    ensures all { IfOk result (λ made. AreAllRuns feed.now (map (λ boxes. boxes.items) boxes.now) patterns.now made.journeys.items) }
+    ensures refused { IfErr result (AreJourneysRefused feed.now (map (λ boxes. boxes.items) boxes.now) patterns.now) }
 {
-    let labels = trip_labels(alloc, feed, patterns)?;
+    let labels = match trip_labels(alloc, feed, patterns) {
+        Ok(labels) => labels,
+        Err(refused) => return Err(refused),
+    };
+    let Ok(trips) = labels_seen(alloc, labels.as_slice()) else {
+        return Err(PlanRefused::NoMemory);
+    };
     let mut made = Journeys {
         journeys: Vec::new(alloc),
         calls: 0,
         labels: 0,
-        trips: labels_seen(alloc, labels.as_slice())?,
-        seen: IndexMap::new(alloc),
+        trips,
     };
     for (number, pattern) in patterns.iter().enumerate() {
-        let Some(trip) = feed.trips.as_slice().get(pattern.trip) else {
-            continue;
-        };
-        let Some(label) = labels.as_slice().get(number) else {
-            continue;
-        };
-        let common = Common {
-            number,
-            label: *label,
-            line: line_of(feed, trip),
-            is_repeated: !trip.frequencies.is_empty(),
-        };
-        let days = boxes_of_trip(trip, boxes);
-        made.add_trip(alloc, trip, common, pattern.halts.len(), days)?;
+        let label = label_at(labels.as_slice(), number);
+        made.add_pattern(alloc, feed, boxes, pattern, number, label)?;
     }
-    Ok(made)
+    match labels_apart(alloc, patterns, made.journeys.as_slice()) {
+        Ok(()) => Ok(made),
+        Err(refused) => Err(refused),
+    }
+}
+
+// The label at the place, which each pattern has.
+fn label_at(labels: &[Label], number: usize) -> Label {
+    match labels.get(number) {
+        Some(label) => *label,
+        None => label_of(b"-", 32),
+    }
+}
+
+// The trip of the pattern.
+fn trip_of<'a>(feed: &'a Feed, pattern: &Pattern) -> Option<&'a Trip>
+    ensures { option_copied result ≡ slice_get feed.now.trips.items pattern.now.trip }
+{
+    feed.trips.as_slice().get(pattern.trip)
 }
 
 // The labels of the patterns' trips.
-fn trip_labels(
-    alloc: Global,
-    feed: &Feed,
-    patterns: &[Pattern],
-) -> Result<Vec<Label>, PlanRefused> {
+fn trip_labels(alloc: Global, feed: &Feed, patterns: &[Pattern]) -> Result<Vec<Label>, PlanRefused>
+    ensures { IfErr result (AreIdsRefused patterns.now) }
+{
     let mut ids = Vec::new(alloc);
     for pattern in patterns {
         let id = match feed.trips.as_slice().get(pattern.trip) {
@@ -98,19 +110,45 @@ fn trip_labels(
 }
 
 // The trip of the pattern of that number.
-fn trip_at(patterns: &[Pattern], number: usize) -> usize {
+fn trip_at(patterns: &[Pattern], number: usize) -> usize
+    ensures { result ≡ trip_number patterns.now number }
+{
     match patterns.get(number) {
         Some(pattern) => pattern.trip,
         None => number,
     }
 }
 
+// Looks for two journeys of one label.
+fn labels_apart(
+    alloc: Global,
+    patterns: &[Pattern],
+    journeys: &[PlannedJourney],
+) -> Result<(), PlanRefused>
+    ensures { IfErr result (AreLabelsRefused patterns.now journeys.now) }
+{
+    let mut seen: IndexMap<Label, usize> = IndexMap::new(alloc);
+    for journey in journeys {
+        match seen.insert(journey.label, journey.pattern) {
+            Ok(None) => {}
+            Ok(Some(first)) => {
+                return Err(PlanRefused::DoubledTrips {
+                    first: trip_at(patterns, first),
+                    second: trip_at(patterns, journey.pattern),
+                });
+            }
+            Err(_) => return Err(PlanRefused::NoMemory),
+        }
+    }
+    Ok(())
+}
+
 // The labels, each with its number.
-fn labels_seen(alloc: Global, labels: &[Label]) -> Result<IndexMap<Label, usize>, PlanRefused> {
+fn labels_seen(alloc: Global, labels: &[Label]) -> Result<IndexMap<Label, usize>, NoMemory> {
     let mut seen = IndexMap::new(alloc);
     for (number, label) in labels.iter().enumerate() {
         if seen.insert(*label, number).is_err() {
-            return Err(PlanRefused::NoMemory);
+            return Err(NoMemory);
         }
     }
     Ok(seen)
@@ -159,6 +197,36 @@ impl Common {
 }
 
 impl Journeys {
+    // Adds the journeys of the pattern of that number.
+    fn add_pattern(
+        &mut self,
+        alloc: Global,
+        feed: &Feed,
+        boxes: &[Vec<DayBox>],
+        pattern: &Pattern,
+        number: usize,
+        label: Label,
+    ) -> Result<(), PlanRefused>
+        requires { length self.old.journeys.items ≤ 20000 }
+        ensures stem { OnOk result (Adds (IsOfPattern feed.now (map (λ boxes. boxes.items) boxes.now) number pattern.now) self.old.journeys.items self.new.journeys.items) }
+        ensures all { OnOk result (map run_of self.new.journeys.items ≡ map run_of self.old.journeys.items ++ runs_at feed.now (map (λ boxes. boxes.items) boxes.now) number pattern.now) }
+        ensures calls { OnOk result (self.new.calls ≡ self.old.calls + length (runs_at feed.now (map (λ boxes. boxes.items) boxes.now) number pattern.now) * length pattern.now.halts.items) }
+        ensures few { OnOk result (length self.new.journeys.items ≤ 20000) }
+        ensures past { IfErr result (IsPast (length self.old.journeys.items + length (runs_at feed.now (map (λ boxes. boxes.items) boxes.now) number pattern.now)) (self.old.calls + length (runs_at feed.now (map (λ boxes. boxes.items) boxes.now) number pattern.now) * length pattern.now.halts.items)) }
+    {
+        let Some(trip) = trip_of(feed, pattern) else {
+            return Ok(());
+        };
+        let common = Common {
+            number,
+            label,
+            line: line_of(feed, trip),
+            is_repeated: !trip.frequencies.is_empty(),
+        };
+        let days = boxes_of_trip(trip, boxes);
+        self.add_trip(alloc, trip, common, pattern.halts.len(), days)
+    }
+
     // Adds the journeys of a trip: one for each of its departures and boxes.
     fn add_trip(
         &mut self,
@@ -168,7 +236,12 @@ impl Journeys {
         calls: usize,
         days: &[DayBox],
     ) -> Result<(), PlanRefused>
-        ensures { OnOk result (Adds (IsOfTrip trip.now common.number days.now) self.old.journeys.items self.new.journeys.items) }
+        requires { length self.old.journeys.items ≤ 20000 }
+        ensures stem { OnOk result (Adds (IsOfTrip trip.now common.number days.now) self.old.journeys.items self.new.journeys.items) }
+        ensures all { OnOk result (map run_of self.new.journeys.items ≡ map run_of self.old.journeys.items ++ runs_of_starts common.number days.now (departures trip.now)) }
+        ensures calls { OnOk result (self.new.calls ≡ self.old.calls + length (runs_of_starts common.number days.now (departures trip.now)) * calls) }
+        ensures few { OnOk result (length self.new.journeys.items ≤ 20000) }
+        ensures past { IfErr result (IsPast (length self.old.journeys.items + length (runs_of_starts common.number days.now (departures trip.now))) (self.old.calls + length (runs_of_starts common.number days.now (departures trip.now)) * calls)) }
     {
         let Ok(starts) = starts_of(alloc, trip, JOURNEYS) else {
             return Err(PlanRefused::NoMemory);
@@ -220,7 +293,12 @@ impl Journeys {
         calls: usize,
         days: &[DayBox],
     ) -> Result<(), PlanRefused>
-        ensures { OnOk result (Adds (IsOfStart common.number start days.now) self.old.journeys.items self.new.journeys.items) }
+        requires { length self.old.journeys.items ≤ 20000 }
+        ensures stem { OnOk result (Adds (IsOfStart common.number start days.now) self.old.journeys.items self.new.journeys.items) }
+        ensures all { OnOk result (map run_of self.new.journeys.items ≡ map run_of self.old.journeys.items ++ runs_of_start common.number days.now start) }
+        ensures calls { OnOk result (self.new.calls ≡ self.old.calls + length days.now * calls) }
+        ensures few { OnOk result (length self.new.journeys.items ≤ 20000) }
+        ensures past { IfErr result (IsPast (length self.old.journeys.items + length days.now) (self.old.calls + length days.now * calls)) }
     {
         for (place, found) in days.iter().enumerate() {
             let label = common.label_of(start, place, days.len());
@@ -238,7 +316,11 @@ impl Journeys {
         calls: usize,
         days: DayBox,
     ) -> Result<(), PlanRefused>
-        ensures { OnOk result (Adds (IsMade common.number start days) self.old.journeys.items self.new.journeys.items) }
+        ensures stem { OnOk result (Adds (IsMade common.number start days) self.old.journeys.items self.new.journeys.items) }
+        ensures all { OnOk result (map run_of self.new.journeys.items ≡ map run_of self.old.journeys.items ++ record { pattern = common.number; start = start; days = days } ∷ []) }
+        ensures calls { OnOk result (self.new.calls ≡ self.old.calls + calls) }
+        ensures few { OnOk result (length self.new.journeys.items ≤ 20000) }
+        ensures past { IfErr result (IsPast (length self.old.journeys.items + 1) (self.old.calls + calls)) }
     {
         if self.journeys.len() >= JOURNEYS {
             return Err(PlanRefused::TooManyJourneys);
@@ -247,35 +329,17 @@ impl Journeys {
         if calls > CALLS {
             return Err(PlanRefused::TooManyCalls);
         }
-        let pattern = common.number;
-        claim(&mut self.seen, label, pattern)?;
         self.calls = calls;
         let journey = PlannedJourney {
             label,
             line: common.line,
             days,
-            pattern,
+            pattern: common.number,
             start,
         };
         match put(&mut self.journeys, journey) {
             Ok(()) => Ok(()),
             Err(NoMemory) => Err(PlanRefused::NoMemory),
         }
-    }
-}
-
-// Notes that the label is that of a journey of the pattern.
-fn claim(
-    seen: &mut IndexMap<Label, usize>,
-    label: Label,
-    pattern: usize,
-) -> Result<(), PlanRefused> {
-    match seen.insert(label, pattern) {
-        Ok(None) => Ok(()),
-        Ok(Some(first)) => Err(PlanRefused::DoubledTrips {
-            first,
-            second: pattern,
-        }),
-        Err(_) => Err(PlanRefused::NoMemory),
     }
 }

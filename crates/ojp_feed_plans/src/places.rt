@@ -1,5 +1,8 @@
 //! The places of a plan.
 
+ghost use Rattle.std.specs.Prelude.{◌≡◌, length, slice_index_or, IfErr};
+ghost use Rattle.ojp_feed_plans.specs.Refusals.{ArePlacesRefused, AreRising};
+
 use crate::changes::{Changes, changes_of};
 use crate::memory::{is_marked, put};
 use crate::plans::PlannedPlace;
@@ -31,7 +34,9 @@ pub fn placed_of(
     settings: &Settings,
     places: &Places,
     patterns: &[Pattern],
-) -> Result<Placing, PlanRefused> {
+) -> Result<Placing, PlanRefused>
+    ensures { IfErr result (ArePlacesRefused feed.now) }
+{
     let stops = feed.stops.len();
     let count = stops.saturating_add(places.points.len());
     let Ok(served) = served_by(alloc, feed, patterns, places.of_stop.as_slice(), count) else {
@@ -55,8 +60,24 @@ pub fn placed_of(
         held: changes.held,
         between: changes.between,
     };
-    placing.add_stops(alloc, feed, settings, own.as_slice(), &served, &changes)?;
-    placing.add_points(alloc, feed, places.points.as_slice())?;
+    let labels = match stop_labels(alloc, feed, own.as_slice()) {
+        Ok(labels) => labels,
+        Err(refused) => return Err(refused),
+    };
+    let Ok(()) = placing.add_stops(
+        alloc,
+        feed,
+        settings,
+        own.as_slice(),
+        labels.as_slice(),
+        &served,
+        &changes,
+    ) else {
+        return Err(PlanRefused::NoMemory);
+    };
+    let Ok(()) = placing.add_points(alloc, feed, places.points.as_slice()) else {
+        return Err(PlanRefused::NoMemory);
+    };
     Ok(placing)
 }
 
@@ -86,10 +107,10 @@ impl Placing {
         feed: &Feed,
         settings: &Settings,
         numbers: &[usize],
+        labels: &[Label],
         served: &Served,
         changes: &Changes,
-    ) -> Result<(), PlanRefused> {
-        let labels = stop_labels(alloc, feed, numbers)?;
+    ) -> Result<(), NoMemory> {
         for (label, number) in labels.iter().zip(numbers) {
             let change = changes.at(*number, served.several.as_slice(), settings);
             self.add_own(alloc, feed, settings.code, *number, *label, change)?;
@@ -103,7 +124,7 @@ impl Placing {
         alloc: Global,
         feed: &Feed,
         points: &[Exchange],
-    ) -> Result<(), PlanRefused> {
+    ) -> Result<(), NoMemory> {
         for point in points {
             self.add_point(alloc, feed, point)?;
         }
@@ -119,7 +140,7 @@ impl Placing {
         number: usize,
         label: Label,
         change: u32,
-    ) -> Result<(), PlanRefused> {
+    ) -> Result<(), NoMemory> {
         let Some(row) = feed.stops.as_slice().get(number) else {
             return Ok(());
         };
@@ -133,12 +154,7 @@ impl Placing {
     }
 
     // Adds an exchange point.
-    fn add_point(
-        &mut self,
-        alloc: Global,
-        feed: &Feed,
-        point: &Exchange,
-    ) -> Result<(), PlanRefused> {
+    fn add_point(&mut self, alloc: Global, feed: &Feed, point: &Exchange) -> Result<(), NoMemory> {
         let Some(label) = local_part(&point.point) else {
             return Ok(());
         };
@@ -157,22 +173,22 @@ impl Placing {
         change: u32,
         name: &str,
         label: Label,
-    ) -> Result<(), PlanRefused> {
+    ) -> Result<(), NoMemory> {
         let Ok((name, is_changed)) = name_of(alloc, name, label) else {
-            return Err(PlanRefused::NoMemory);
+            return Err(NoMemory);
         };
         if is_changed {
             self.names = self.names.saturating_add(1);
         }
-        match put(&mut self.places, PlannedPlace { stop, change, name }) {
-            Ok(()) => Ok(()),
-            Err(NoMemory) => Err(PlanRefused::NoMemory),
-        }
+        put(&mut self.places, PlannedPlace { stop, change, name })
     }
 }
 
-// The labels of the stops.
-fn stop_labels(alloc: Global, feed: &Feed, numbers: &[usize]) -> Result<Vec<Label>, PlanRefused> {
+// The labels of the stops of these numbers.
+fn stop_labels(alloc: Global, feed: &Feed, numbers: &[usize]) -> Result<Vec<Label>, PlanRefused>
+    requires { AreRising (length feed.now.stops.items) numbers.now }
+    ensures { IfErr result (ArePlacesRefused feed.now) }
+{
     let mut ids = Vec::new(alloc);
     for number in numbers {
         let id = match feed.stops.as_slice().get(*number) {
@@ -194,7 +210,9 @@ fn stop_labels(alloc: Global, feed: &Feed, numbers: &[usize]) -> Result<Vec<Labe
 }
 
 /// The number at the place, and the place where there is none.
-pub fn number_at(numbers: &[usize], place: usize) -> usize {
+pub fn number_at(numbers: &[usize], place: usize) -> usize
+    ensures { result ≡ slice_index_or numbers.now place place }
+{
     match numbers.get(place) {
         Some(number) => *number,
         None => place,
@@ -202,11 +220,11 @@ pub fn number_at(numbers: &[usize], place: usize) -> usize {
 }
 
 // The region's own stop of that label.
-fn own_stop(alloc: Global, code: Code, label: Label) -> Result<Option<StopRef>, PlanRefused> {
+fn own_stop(alloc: Global, code: Code, label: Label) -> Result<Option<StopRef>, NoMemory> {
     let mut text = Vec::new(alloc);
     for part in [code.text(), b":".as_slice(), label.text()] {
         if text.extend_from_slice(part).is_err() {
-            return Err(PlanRefused::NoMemory);
+            return Err(NoMemory);
         }
     }
     Ok(StopRef::from_bytes(text.as_slice()))

@@ -1,9 +1,10 @@
 //! The plan of a feed.
 
-ghost use Rattle.std.specs.Prelude.{◌≡◌, IfOk};
+ghost use Rattle.std.specs.Prelude.{◌≡◌, IfErr, IfOk};
 ghost use Rattle.std.specs.List.{All};
-ghost use Rattle.ojp_feed_plans.specs.Journeys.{IsJourneyOf};
+ghost use Rattle.ojp_feed_plans.specs.Journeys.{AreComplete, IsJourneyOf};
 ghost use Rattle.ojp_feed_plans.specs.Plans.{AreWeighed, IsPlanOf};
+ghost use Rattle.ojp_feed_plans.specs.Refusals.{IsPlanRefused};
 
 use crate::boxes::boxes_of;
 use crate::counting::counts_of;
@@ -22,7 +23,8 @@ use std::alloc::Global;
 
 /// What a timetable of the feed declares.
 pub fn plan(alloc: Global, feed: &Feed, settings: &Settings) -> Result<Plan, PlanRefused>
-    ensures { IfOk result (IsPlanOf feed.now) }
+    ensures of { IfOk result (IsPlanOf feed.now) }
+    ensures refused { IfErr result (IsPlanRefused feed.now) }
 {
     let Ok(places) = places_of(alloc, feed) else {
         return Err(PlanRefused::NoMemory);
@@ -31,12 +33,19 @@ pub fn plan(alloc: Global, feed: &Feed, settings: &Settings) -> Result<Plan, Pla
         return Err(PlanRefused::NoMemory);
     };
     let of_stop = places.of_stop.as_slice();
-    let Ok(weighing) = weigh_all(alloc, feed, boxes.as_slice(), of_stop, settings.as_open) else {
+    let days = boxes.as_slice();
+    let Ok(weighing) = weigh_all(alloc, feed, days, of_stop, settings.as_open) else {
         return Err(PlanRefused::NoMemory);
     };
     let patterns = weighing.patterns.as_slice();
-    let made = journeys_of(alloc, feed, patterns, boxes.as_slice())?;
-    let placed = placed_of(alloc, feed, settings, &places, patterns)?;
+    let made = match journeys_of(alloc, feed, patterns, days) {
+        Ok(made) => made,
+        Err(refused) => return Err(refused),
+    };
+    let placed = match placed_of(alloc, feed, settings, &places, patterns) {
+        Ok(placed) => placed,
+        Err(refused) => return Err(refused),
+    };
     let Ok(services) = services_of(alloc, made.journeys.as_slice()) else {
         return Err(PlanRefused::NoMemory);
     };
@@ -58,6 +67,7 @@ fn joined(
 ) -> Plan
     requires weighed { AreWeighed feed.now places.of_stop.items weighing.fates.items weighing.patterns.items }
     requires made { All (IsJourneyOf feed.now weighing.patterns.items) made.journeys.items }
+    requires complete { AreComplete feed.now weighing.patterns.items made.journeys.items }
     ensures { IsPlanOf feed.now result }
 {
     let counts = counts_of(feed, &weighing, &made, &placed);

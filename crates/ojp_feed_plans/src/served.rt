@@ -1,5 +1,8 @@
 //! Which stops and places are served.
 
+ghost use Rattle.std.specs.Prelude.{IfOk};
+ghost use Rattle.ojp_feed_plans.specs.Refusals.{AreRising};
+
 use crate::memory::{is_marked, mark, put, unmarked};
 use ojp_feed_rows::{Feed, LocationKind, Trip};
 use ojp_feed_trips::{Halt, Pattern};
@@ -74,7 +77,10 @@ pub fn unserved(feed: &Feed, served: &Served) -> u64 {
 }
 
 /// The numbers of the served places below a limit, rising.
-pub fn served_below(alloc: Global, served: &Served, limit: usize) -> Result<Vec<usize>, NoMemory> {
+#[tactic(auto, using(crate::proofs::RefusalFacts::to_more, crate::proofs::RefusalFacts::to_none, crate::proofs::RefusalFacts::to_rising, crate::proofs::RefusalFacts::to_skip))]
+pub fn served_below(alloc: Global, served: &Served, limit: usize) -> Result<Vec<usize>, NoMemory>
+    ensures { IfOk result (λ numbers. AreRising limit numbers.items) }
+{
     let mut numbers = Vec::new(alloc);
     for number in 0..limit {
         if is_marked(served.places.as_slice(), number) {

@@ -15,4 +15,5 @@ returns c =
         all = ap total counted ∙ (total_of c.args.weighing.fates.items ∙ weighed.each);
       };
       sound = record { patterns = weighed.stem; journeys = c.requires.made };
+      complete = c.requires.complete;
     }
