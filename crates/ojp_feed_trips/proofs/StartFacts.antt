@@ -80,17 +80,6 @@ repeat_more row starts new all most next behind room before step turn is =
     ∙ (append_assoc starts (next ∷ []) (take ((most + 1) - length new) rest)
     ∙ (sym (ap (λ (xs : List ℕ). starts ++ xs) kept) ∙ is)))
 
--- nothing is left where the next one is not before the close, or no more are wanted
-pub repeat_ends : (row : Frequency) (starts all : List ℕ) (most next : ℕ) → (row.end ≤ next) ⊎ (most < length starts)
-    → starts ++ take ((most + 1) - length starts) (repeats_from (row.end - next) next row.end (max row.headway 1)) ≡ all → starts ≡ all
-repeat_ends row starts all most next over is =
-    let rest = repeats_from (row.end - next) next row.end (max row.headway 1) in
-    let none : take ((most + 1) - length starts) rest ≡ [] = elim over [
-      | inl h ↦ ap (take ((most + 1) - length starts)) (none_left (row.end - next) next row.end (max row.headway 1) h) ∙ take_all ((most + 1) - length starts) [] (omega arith)
-      | inr h ↦ let done : (most + 1) - length starts ≡ 0 = omega (arith, h) in ap (λ (k : ℕ). take k rest) done
-    ] in
-    sym (append-nil starts) ∙ (sym (ap (λ (xs : List ℕ). starts ++ xs) none) ∙ is)
-
 pub repeat_begins : (row : Frequency) (starts : List ℕ) (most : ℕ) → starts ++ take ((most + 1) - length starts) (repeats_from (row.end - row.start) row.start row.end (max row.headway 1)) ≡ starts ++ take ((most + 1) - length starts) (repeats row)
 unfolding repeats
 repeat_begins row starts most = refl
