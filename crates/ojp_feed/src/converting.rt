@@ -3,10 +3,8 @@
 ghost use Rattle.std.specs.Prelude.{◌≡◌, IfErr, IfOk};
 ghost use Rattle.ojp_timetable.specs.Tables.{Timetable as Table};
 ghost use Rattle.ojp_timetable.specs.TableText.{IsText};
-ghost use Rattle.ojp_feed_plans.specs.Plans.{AddsUp, IsSound};
-ghost use Rattle.ojp_feed_rows.specs.declared.feed.Feed.{Feed as FeedValue};
-ghost use Rattle.ojp_feed_rows.specs.declared.settings.Settings.{Settings as SettingsValue};
-ghost use Rattle.ojp_feed.specs.Converting.{IsCause, refusal_of};
+ghost use Rattle.ojp_feed_plans.specs.Plans.{AddsUp, IsComplete, IsSound};
+ghost use Rattle.ojp_feed.specs.Converting.{IsCause, planned_refusal, refusal_of};
 ghost use Rattle.ojp_feed.specs.Texts.{text_of};
 
 use crate::texts::text_of;
@@ -22,9 +20,9 @@ pub struct Converted {
     pub plan: Plan,
 }
 
-/// Why a feed is not converted: two stops, or two trips, whose ids give one label, by their numbers in the feed; more journeys
-/// or calls than a timetable may have; a line of the text that a timetable refuses, with the reason, as a limit that is
-/// passed; or there is no memory.
+/// Why a feed is not converted: two stops, or two trips, whose ids give one label, by their numbers in the feed, and one trip
+/// twice where two of its own journeys have one label; more journeys or calls than a timetable may have; a line of the text
+/// that a timetable refuses, with the reason, as a limit that is passed; or there is no memory.
 #[derive(Clone, Copy, Debug, PartialEq, Eq)]
 pub enum ConvertRefused {
     DoubledStops { first: usize, second: usize },
@@ -36,12 +34,13 @@ pub enum ConvertRefused {
 }
 
 /// Converts the feed: its text is accepted as that of a timetable, and spells a plan in which each trip is written or left out
-/// for one reason, and each journey is one of its trip's.
+/// for one reason, each journey is one of its trip's, and each departure of a trip that is written has journeys on all its days.
 pub fn convert(alloc: Global, feed: &Feed, settings: &Settings) -> Result<Converted, ConvertRefused>
     ensures accepted { IfOk result (λ converted. (table : Table) × IsText converted.text.items table) }
     ensures spelled { IfOk result (λ converted. converted.text.items ≡ text_of settings.now converted.plan) }
     ensures adds_up { IfOk result (λ converted. AddsUp feed.now converted.plan) }
     ensures sound { IfOk result (λ converted. IsSound feed.now converted.plan) }
+    ensures complete { IfOk result (λ converted. IsComplete feed.now converted.plan) }
     ensures refused { IfErr result (IsCause feed.now settings.now) }
 {
     let plan = match plan(alloc, feed, settings) {
@@ -59,7 +58,7 @@ pub fn convert(alloc: Global, feed: &Feed, settings: &Settings) -> Result<Conver
 
 // The refusal of a plan.
 fn refused_by_plan(refused: PlanRefused) -> ConvertRefused
-    ensures { (feed : FeedValue) (settings : SettingsValue) → IsCause feed settings result }
+    ensures { result ≡ planned_refusal refused }
 {
     match refused {
         PlanRefused::DoubledStops { first, second } => {
