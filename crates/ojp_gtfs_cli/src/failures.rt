@@ -1,0 +1,214 @@
+//! How the program fails, with its status and its line.
+
+ghost use Rattle.ojp_gtfs_cli.specs.Runs.{IsFailed};
+
+use itoa::Buffer;
+use ojp_feed::ConvertRefused;
+use ojp_feed_lines::{FeedFile, FeedRefused, RowReason};
+use ojp_feed_rows::{Feed, Window};
+use ojp_outside::{Sink, put_parts};
+use ojp_region::FileRefused;
+use ojp_values::Day;
+
+/// Why no timetable was written.
+#[derive(Clone, Copy, Debug, PartialEq, Eq)]
+pub(crate) enum Failure {
+    /// The words are of another form.
+    Words,
+    /// A file could not be read.
+    Unread,
+    /// The feed, or another file, is refused.
+    Refused,
+    /// Memory ran out.
+    Memory,
+}
+
+impl Failure {
+    /// The exit status.
+    pub fn status(self) -> u8
+        ensures { IsFailed result }
+    {
+        match self {
+            Failure::Words => 2,
+            Failure::Unread => 3,
+            Failure::Memory => 5,
+            Failure::Refused => 6,
+        }
+    }
+}
+
+/// Writes the parts; nobody can be told of a fault on standard error.
+pub(crate) fn put<E: Sink>(report: &mut E, parts: &[&[u8]]) {
+    let _ = put_parts(report, parts);
+}
+
+pub(crate) fn bad_words<E: Sink>(report: &mut E) -> Failure {
+    put(report, &[b"ojp_gtfs: bad words\n"]);
+    Failure::Words
+}
+
+pub(crate) fn no_memory<E: Sink>(report: &mut E) -> Failure {
+    put(report, &[b"no memory\n"]);
+    Failure::Memory
+}
+
+pub(crate) fn tell_output<E: Sink>(report: &mut E) {
+    put(report, &[b"output\n"]);
+}
+
+/// A file could not be read.
+pub(crate) fn unread<E: Sink>(report: &mut E, file: &str) -> Failure {
+    put(report, &[b"store: ", file.as_bytes(), b"\n"]);
+    Failure::Unread
+}
+
+/// A file has more bytes than a file may have.
+pub(crate) fn too_long<E: Sink>(report: &mut E, file: &str) -> Failure {
+    put(report, &[b"too long: ", file.as_bytes(), b"\n"]);
+    Failure::Unread
+}
+
+/// `FILE: line N: `
+fn tell_place<E: Sink>(report: &mut E, file: &str, line: u64) {
+    let mut digits = Buffer::new();
+    let number = digits.format(line);
+    put(
+        report,
+        &[file.as_bytes(), b": line ", number.as_bytes(), b": "],
+    );
+}
+
+/// A line of a file is refused, for a reason in words, behind which a column may stand.
+pub(crate) fn refused_line<E: Sink>(
+    report: &mut E,
+    file: &str,
+    line: u64,
+    words: &str,
+    column: &str,
+) -> Failure {
+    tell_place(report, file, line);
+    put(report, &[words.as_bytes(), column.as_bytes(), b"\n"]);
+    Failure::Refused
+}
+
+/// The name of a file of the feed; that of the operator's is given.
+fn name_of<'a>(file: FeedFile, operator: &'a str) -> &'a str {
+    match file {
+        FeedFile::Operator => operator,
+        file => file.name(),
+    }
+}
+
+/// A feed was not read.
+pub(crate) fn refused_feed<E: Sink>(
+    report: &mut E,
+    refused: FeedRefused,
+    operator: &str,
+) -> Failure {
+    match refused {
+        FeedRefused::Unread(file) => unread(report, name_of(file, operator)),
+        FeedRefused::At { file, line, reason } => {
+            let (words, column) = reason.words();
+            refused_line(report, name_of(file, operator), line, words, column)
+        }
+        FeedRefused::NoMemory => no_memory(report),
+    }
+}
+
+/// Another region's file was not taken.
+pub(crate) fn refused_file<E: Sink>(report: &mut E, file: &str, refused: FileRefused) -> Failure {
+    match refused {
+        FileRefused::Failed => unread(report, file),
+        FileRefused::TooLong => too_long(report, file),
+        FileRefused::At { line, reason } => refused_line(report, file, line, reason.words(), ""),
+        FileRefused::NoMemory => no_memory(report),
+    }
+}
+
+/// No rule was found whose noons are those of the zone file.
+pub(crate) fn no_rule<E: Sink>(report: &mut E, zone: &str, window: Window) -> Failure {
+    put(
+        report,
+        &[
+            b"agency.txt: no rule for ",
+            zone.as_bytes(),
+            b" from ",
+            &day_text(window.first),
+            b" to ",
+            &day_text(window.last),
+            b": shorten the window or give --zone\n",
+        ],
+    );
+    Failure::Refused
+}
+
+/// The day as it is written; that of 1970-01-03 for a number that is no operating day.
+pub(crate) fn day_text(number: u32) -> [u8; 10] {
+    match Day::new(number) {
+        Ok(day) => day.text(),
+        Err(_) => *b"1970-01-03",
+    }
+}
+
+/// The feed does not become a timetable; where a limit is passed, up to which day it would.
+pub(crate) fn refused_conversion<E: Sink>(
+    report: &mut E,
+    feed: &Feed,
+    refused: ConvertRefused,
+    fits: Option<u32>,
+) -> Failure {
+    match refused {
+        ConvertRefused::NoMemory => return no_memory(report),
+        ConvertRefused::DoubledStops { first, second } => {
+            let (one, other) = (stop_id(feed, first), stop_id(feed, second));
+            return doubled(report, "stops.txt", one, other);
+        }
+        ConvertRefused::DoubledTrips { first, second } => {
+            let (one, other) = (trip_id(feed, first), trip_id(feed, second));
+            return doubled(report, "trips.txt", one, other);
+        }
+        ConvertRefused::TooManyJourneys => {
+            put(report, &[b"timetable: more than 20000 journeys\n"]);
+        }
+        ConvertRefused::TooManyCalls => {
+            put(report, &[b"timetable: more than 100000 calls\n"]);
+        }
+        ConvertRefused::Line { line, reason } => {
+            let _ = refused_line(report, "timetable", line, reason.words(), "");
+        }
+    }
+    match fits {
+        Some(day) => put(report, &[b"it fits with --to ", &day_text(day), b"\n"]),
+        None => {}
+    }
+    Failure::Refused
+}
+
+fn doubled<E: Sink>(report: &mut E, file: &str, one: &str, other: &str) -> Failure {
+    put(
+        report,
+        &[
+            file.as_bytes(),
+            b": one label for ",
+            one.as_bytes(),
+            b" and ",
+            other.as_bytes(),
+            b"\n",
+        ],
+    );
+    Failure::Refused
+}
+
+fn stop_id(feed: &Feed, number: usize) -> &str {
+    match feed.stops.get(number) {
+        Some(stop) => stop.id.as_str(),
+        None => "",
+    }
+}
+
+fn trip_id(feed: &Feed, number: usize) -> &str {
+    match feed.trips.get(number) {
+        Some(trip) => trip.id.as_str(),
+        None => "",
+    }
+}

@@ -1,0 +1,93 @@
+//! The top call.
+
+ghost use Rattle.ojp_steps.specs.Lent.{lent};
+ghost use Rattle.ojp_gtfs_cli.specs.Runs.{IsConverted, IsDone, WritesAs};
+
+use crate::converting::{Done, convert_feed};
+use crate::failures::{bad_words, no_memory, tell_output};
+use crate::report::tell;
+use crate::words::read_words;
+use ojp_feed_lines::Folder;
+use ojp_feed_notices::{Seen, look};
+use ojp_outside::{Sink, Store, WriteFault, put_all};
+use ojp_values::NoMemory;
+use std::alloc::Global;
+
+/// The status where `--strict` was asked for and there is something to look at.
+const LOOK: u8 = 10;
+
+/// The status where a write of the output failed.
+const OUTPUT: u8 = 4;
+
+/// Converts the feed of the folder as the words say, and gives the exit status. Zone files stand in the folder `zoneinfo` of
+/// the store, which also has the operator's file and those of other regions.
+///
+/// The timetable goes to the output, once it is read back and all else is done; the report and any failure go to `report`.
+pub fn run<D: Folder, S: Store, O: Sink, E: Sink>(
+    alloc: Global,
+    words: &[String],
+    zoneinfo: &str,
+    folder: &mut D,
+    store: &mut S,
+    output: &mut O,
+    report: &mut E,
+) -> u8
+    ensures written { WritesAs (lent O.seen output.old output.new) result }
+{
+    let Some(asked) = read_words(words) else {
+        return bad_words(report).status();
+    };
+    let strict = asked.options.strict;
+    match convert_feed(alloc, &asked, zoneinfo, folder, store, report) {
+        Ok(done) => finish(alloc, &done, strict, output, report),
+        Err(failure) => failure.status(),
+    }
+}
+
+/// Writes the report, and then the timetable.
+fn finish<O: Sink, E: Sink>(
+    alloc: Global,
+    done: &Done,
+    strict: bool,
+    output: &mut O,
+    report: &mut E,
+) -> u8
+    requires { IsConverted done.now.converted.text.items }
+    ensures written { WritesAs (lent O.seen output.old output.new) result }
+{
+    tell(done, report);
+    let seen = Seen {
+        feed: &done.feed,
+        table: &done.table,
+        unserved: done.converted.plan.counts.unserved_stops,
+        others: &done.others,
+    };
+    let told = match look(alloc, seen, report) {
+        Ok(told) => told,
+        Err(NoMemory) => return no_memory(report).status(),
+    };
+    let status = status_of(strict, told);
+    write(&done.converted.text, status, output, report)
+}
+
+/// Writes the text, and gives the status where that is done.
+fn write<O: Sink, E: Sink>(text: &[u8], status: u8, output: &mut O, report: &mut E) -> u8
+    requires converted { IsConverted text.now }
+    requires done { IsDone status }
+    ensures { WritesAs (lent O.seen output.old output.new) result }
+{
+    match put_all(output, text) {
+        Ok(()) => status,
+        Err(WriteFault) => {
+            tell_output(report);
+            OUTPUT
+        }
+    }
+}
+
+/// The status by the number of lines to look at.
+fn status_of(strict: bool, told: u64) -> u8
+    ensures { IsDone result }
+{
+    if strict && told > 0 { LOOK } else { 0 }
+}

@@ -1,0 +1,94 @@
+//! The zone of a timetable: what the words say, or a rule that has the noons of the zone file.
+
+use crate::failures::{Failure, no_memory, no_rule, refused_line, too_long, unread};
+use ojp_calendars::{ZoneFault, zone_of_file};
+use ojp_feed_rows::{Feed, Window};
+use ojp_outside::{Sink, Store, StoreRefused};
+use ojp_values::{Day, FIRST_DAY};
+use std::alloc::{AllocError, Global};
+
+/// The zone's text for the window of the feed, where zone files stand in the folder `zoneinfo`.
+pub(crate) fn zone_text<S: Store, E: Sink>(
+    alloc: Global,
+    feed: &Feed,
+    asked: Option<&str>,
+    zoneinfo: &str,
+    store: &mut S,
+    report: &mut E,
+) -> Result<String, Failure> {
+    match asked {
+        Some(rule) => match String::from_str(alloc, rule) {
+            Ok(zone) => Ok(zone),
+            Err(_) => Err(no_memory(report)),
+        },
+        None => zone_by_file(alloc, feed, zoneinfo, store, report),
+    }
+}
+
+fn zone_by_file<S: Store, E: Sink>(
+    alloc: Global,
+    feed: &Feed,
+    zoneinfo: &str,
+    store: &mut S,
+    report: &mut E,
+) -> Result<String, Failure> {
+    let name = feed.zone_name.as_str();
+    if !is_zone_name(name) {
+        return Err(refused_line(report, "agency.txt", 2, "bad ", "agency_timezone"));
+    }
+    let Ok(path) = path_of(alloc, zoneinfo, name) else {
+        return Err(no_memory(report));
+    };
+    let bytes = match store.read_file(alloc, path.as_str()) {
+        Ok(bytes) => bytes,
+        Err(StoreRefused::Failed) => return Err(unread(report, path.as_str())),
+        Err(StoreRefused::TooLong) => return Err(too_long(report, path.as_str())),
+        Err(StoreRefused::NoMemory) => return Err(no_memory(report)),
+    };
+    match rule_of(alloc, &bytes, feed.window) {
+        Ok(zone) => Ok(zone),
+        Err(ZoneFault::Memory) => Err(no_memory(report)),
+        Err(ZoneFault::File) => Err(unread(report, path.as_str())),
+        Err(ZoneFault::Rule) => Err(no_rule(report, name, feed.window)),
+    }
+}
+
+/// The text of a rule with the noons of the zone file.
+fn rule_of(alloc: Global, bytes: &[u8], window: Window) -> Result<String, ZoneFault> {
+    let text = zone_of_file(alloc, bytes, day_of(window.first), day_of(window.last))?;
+    match str::from_utf8(&text) {
+        Ok(text) => match String::from_str(alloc, text) {
+            Ok(zone) => Ok(zone),
+            Err(_) => Err(ZoneFault::Memory),
+        },
+        Err(_) => Err(ZoneFault::Rule),
+    }
+}
+
+/// The day of that number; the first operating day for a number that is none.
+fn day_of(number: u32) -> Day {
+    match Day::new(number) {
+        Ok(day) => day,
+        Err(_) => match Day::new(FIRST_DAY) {
+            Ok(day) => day,
+            Err(_) => unreachable!(),
+        },
+    }
+}
+
+/// Letters, digits, `_`, `+`, `-` and `/`, which does not begin it: a name below the folder of zone files.
+fn is_zone_name(name: &str) -> bool {
+    let bytes = name.as_bytes();
+    !bytes.starts_with(b"/") && bytes.iter().all(|byte| is_zone_byte(*byte))
+}
+
+fn is_zone_byte(byte: u8) -> bool {
+    byte.is_ascii_alphanumeric() || byte == b'_' || byte == b'+' || byte == b'-' || byte == b'/'
+}
+
+fn path_of(alloc: Global, zoneinfo: &str, name: &str) -> Result<String, AllocError> {
+    let mut path = String::from_str(alloc, zoneinfo)?;
+    path.push_str("/")?;
+    path.push_str(name)?;
+    Ok(path)
+}
