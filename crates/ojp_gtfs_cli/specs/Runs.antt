@@ -7,11 +7,12 @@ use Rattle.ojp_timetable.specs.Tables.{Timetable}
 use Rattle.ojp_timetable.specs.TableText.{IsText}
 use Rattle.ojp_feed_rows.specs.declared.feed.Feed.{Feed}
 use Rattle.ojp_feed_rows.specs.declared.settings.Settings.{Settings}
-use Rattle.ojp_feed_plans.specs.Plans.{AddsUp, IsSound}
+use Rattle.ojp_feed_plans.specs.Plans.{AddsUp, IsComplete, IsSound}
 use Rattle.ojp_feed_plans.specs.declared.plans.Plan.{Plan}
 use Rattle.ojp_feed.specs.Texts.{text_of}
 
--- the text is a timetable's and spells a plan of a feed, in which each trip is counted once and each journey stems from one
+-- the text is a timetable's and spells a plan of a feed, in which each trip is counted once, each journey stems from one, and
+-- each departure of a trip that is written has its journeys on all days of the trip
 pub record IsConverted (text : Text) : Type 0 where
   pub table : Timetable
   pub is_text : IsText text table
@@ -21,6 +22,7 @@ pub record IsConverted (text : Text) : Type 0 where
   pub spelled : text ≡ text_of settings plan
   pub adds_up : AddsUp feed plan
   pub sound : IsSound feed plan
+  pub complete : IsComplete feed plan
 
 -- the output gained just a converted feed's text
 pub record IsWritten {O : Type 0} (output : Lent O SinkView) : Type 0 where
