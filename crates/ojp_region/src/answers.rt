@@ -7,9 +7,10 @@ ghost use Rattle.ojp_timetable.specs.Runs.{IsWell};
 ghost use Rattle.ojp_scan.specs.Scans.{IsMadeFor};
 ghost use Rattle.ojp_region.specs.Replies.{points_reply};
 
-use crate::trips::{multi_answer, trip_answer};
+use crate::trips::multi_answer;
 use ojp_exchange::points_of;
 use ojp_scan::Scan;
+use ojp_scan::answers::answer_trip;
 use ojp_stop_events::events;
 use ojp_timetable::Timetable;
 use ojp_values::{
@@ -46,7 +47,7 @@ fn answer_by_kind(
     ensures answered { IfOk result (λ delivery. RegionAnswers table.now ask.now delivery) }
 {
     match ask {
-        Ask::Trip(ask) => trip_answer(alloc, table, scan, ask),
+        Ask::Trip(ask) => answer_trip(alloc, table, scan, ask),
         Ask::Multi(ask) => multi_answer(alloc, table, scan, ask),
         Ask::Events(ask) => events_answer(alloc, table, ask),
         Ask::Points(ask) => points_answer(alloc, table, ask),

@@ -1,40 +1,19 @@
-//! What a region answers to an ask for trips: to one target or to many.
+//! What a region answers to an ask for trips to many targets.
 
 ghost use Rattle.std.specs.Prelude.{◌≡◌, ℕ, not, find, IfOk};
 ghost use Rattle.std.specs.List.{list_any};
 ghost use Rattle.ojp_values.specs.Lists.{Pairwise};
 ghost use Rattle.ojp_values.specs.Texts.{Text, same};
 ghost use Rattle.ojp_timetable.specs.Tables.{has};
-ghost use Rattle.ojp_timetable.specs.Answers.{MultiAnswered, TargetAnswered, TripAnswered, reply_of, targets_fault};
+ghost use Rattle.ojp_timetable.specs.Answers.{MultiAnswered, TargetAnswered, targets_fault};
 ghost use Rattle.ojp_scan.specs.Scans.{IsMadeFor, IsScanOf};
 ghost use Rattle.ojp_scan.specs.Trips.{IsStarted};
 
 use ojp_scan::Scan;
 use ojp_scan::answers::earliest_trip;
 use ojp_timetable::Timetable;
-use ojp_values::{
-    Delivery, Fault, List, MultiAsk, MultiReply, NoMemory, StopRef, TripAsk, TripReply, TripResult,
-};
+use ojp_values::{Delivery, Fault, List, MultiAsk, MultiReply, NoMemory, StopRef, TripResult};
 use std::alloc::Global;
-
-/// The fault of the ask, or an earliest trip, or that there is none.
-pub(crate) fn trip_answer(
-    alloc: Global,
-    table: &Timetable,
-    scan: &mut Scan,
-    ask: &TripAsk,
-) -> Result<Delivery, NoMemory>
-    requires made { IsMadeFor scan.old table.now }
-    ensures made { IsMadeFor scan.new table.now }
-    ensures answered { IfOk result (λ delivery. TripAnswered table.now ask.now delivery) }
-{
-    if let Some(fault) = targets_fault(table, ask.origin, &[ask.target]) {
-        return Ok(Delivery::Trip(TripReply::Fault(fault)));
-    }
-    scan.from(table, ask.origin, ask.start);
-    let found = earliest_trip(alloc, table, scan, ask.target)?;
-    Ok(Delivery::Trip(reply_of(found)))
-}
 
 /// The fault of the ask, or a result for each target in their order, all by one scan.
 pub(crate) fn multi_answer(
@@ -74,16 +53,6 @@ fn results_of(
         };
     }
     Ok(List::from_items(found))
-}
-
-/// The result as the reply to a trip ask.
-fn reply_of(found: TripResult) -> TripReply
-    ensures { result ≡ reply_of found }
-{
-    match found {
-        TripResult::Trip(trip) => TripReply::Trip(trip),
-        TripResult::NoTrip(stop) => TripReply::Fault(Fault::NoTrip(stop)),
-    }
 }
 
 /// The fault of an ask, if it has one: a target is the origin, or a stop is unknown, the origin first
