@@ -3,7 +3,7 @@
 use ojp_timetable::{Call, Timetable};
 
 /// The call at that place of the journey of that number, both counted from 0; none where there is none.
-#[tactic(auto, using(crate::proofs::CallFacts::calls_told))]
+#[tactic(auto, using(ojp_timetable::proofs::ReadFacts::calls_told))]
 pub(crate) fn call_at(table: &Timetable, journey: usize, position: usize) -> Option<Call> {
     if journey >= table.journeys() {
         return None;

@@ -1,6 +1,6 @@
 -- What a region answers fits, where it is sure of the ask.
 use Rattle.std.proofs.Common.{◌≡◌, ℕ, zero, suc, ◌+◌, ◌<◌, ◌≤◌, inl, inr, Bool, true, false, cond, List, [], ◌∷◌, length, take, refl, sym, ap, subst, arith, length-take}
-use Rattle.std.specs.Prelude.{Option, Some, None, MatchBool, find, option_map}
+use Rattle.std.specs.Prelude.{Option, Some, None, MatchBool, find}
 use Rattle.ojp_values.proofs.ListFacts.{each_at}
 use Rattle.ojp_values.proofs.EachFacts.{each_of, each_take}
 use Rattle.ojp_values.specs.Lists.{Among, Each, IsRising, Pairwise}
@@ -18,11 +18,12 @@ use Rattle.ojp_values.specs.declared.trips.Event.{Event}
 use Rattle.ojp_values.specs.declared.trips.Leg.{Leg}
 use Rattle.ojp_values.specs.declared.trips.Point.{Point}
 use Rattle.ojp_values.specs.declared.trips.Trip.{Trip}
-use Rattle.ojp_timetable.specs.Tables.{Timetable, Place, change_of, has, place_of, point_of}
+use Rattle.ojp_timetable.specs.Tables.{Timetable, has, point_of}
 use Rattle.ojp_timetable.specs.Runs.{IsWell, day_long}
 use Rattle.ojp_timetable.specs.Journeys.{AllFollow, Follows, HasTime, Leads, Standing, alighted}
 use Rattle.ojp_timetable.specs.Points.{IsPointOf}
 use Rattle.ojp_timetable.specs.Answers.{AreEvents, IsEarliestTrip, IsEvent, MultiOutcome, RegionAnswers, TargetAnswered, TripOutcome, event_lt, points_answer, points_reply, reply_of}
+use Rattle.ojp_timetable.proofs.LegCounts.{change_takes_time}
 use Rattle.ojp_timetable.proofs.RideFacts.{leg_forward}
 use Rattle.ojp_timetable.proofs.TextFacts.{same_is}
 use Rattle.ojp_links.specs.Fits.{Fits, FitsEvent, FitsNext, FitsResult, FitsTrip, FitsTripReply}
@@ -54,18 +55,6 @@ pairwise_map R S f (x ∷ xs) [] h = absurd h
 pairwise_map R S f (x ∷ xs) (y ∷ ys) h = (f x y h.0, pairwise_map R S f xs ys h.1)
 
 -- ---- trips
-
-timed : (o : Option Place) (change : ℕ) → option_map (λ (place : Place). place.change) o ≡ Some change → (place : Place) × (o ≡ Some place) × (place.change ≡ change)
-timed None change e = absurd (cc)
-timed (Some place) change e = let is : place.change ≡ change = cc in (place, refl, is)
-
-change_takes_time : (table : Timetable) (stop : Text) (change : ℕ) → IsWell table → change_of table stop ≡ Some change → 1 ≤ change
-unfolding place_of
-change_takes_time table stop change well e =
-    let at = timed (find (λ (place : Place). same stop place.stop) table.places) change e in
-    let place = found (λ (p : Place). same stop p.stop) table.places at.0 at.1 in
-    let limits : (1 ≤ at.0.change) × (at.0.change ≤ 7200) = well.changes at.0 place.0 in
-    omega (arith, limits.0, at.2)
 
 follow_fits : (table : Timetable) (at : Standing) (legs : List Leg) → IsWell table → AllFollow (Follows table) at legs → AllFollow (FitsNext table.region) at legs
 follow_fits table at [] well follow = tt

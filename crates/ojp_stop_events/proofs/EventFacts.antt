@@ -1,6 +1,6 @@
 -- Which events were found among the first calls.
 use Rattle.std.proofs.Common.{◌≡◌, ℕ, suc, zero, ◌+◌, ◌-◌, ◌*◌, ◌<◌, ◌≤◌, ◌==◌, ◌&&◌, ◌⊎◌, inl, inr, Bool, true, false, nat_lt, List, [], length, take, refl, sym, ◌∙◌, ap, subst, arith, slice_get}
-use Rattle.std.specs.Prelude.{Option, Some, None, OnOk, Result, Ok, Err, option_map, unwrap_or}
+use Rattle.std.specs.Prelude.{Option, Some, None, OnOk, Result, Ok, Err}
 use Rattle.std.proofs.lemmas.Bool.{cases_Bool, cases_lt}
 use Rattle.std.proofs.lemmas.Bool.Decides.{nat_tests}
 use Rattle.std.proofs.lemmas.Option.{none-some, same_Some, slice_get_within}
@@ -15,7 +15,7 @@ use Rattle.ojp_values.specs.declared.trips.Event.{Event}
 use Rattle.ojp_timetable.specs.Tables.{Timetable, Journey}
 use Rattle.ojp_timetable.specs.declared.calls.Call.{Call}
 use Rattle.ojp_timetable.specs.Runs.{IsOffset, IsWell, RunsOn, day_long, moment}
-use Rattle.ojp_timetable.specs.Views.{calls_at, view_of}
+use Rattle.ojp_timetable.specs.Views.{calls_at}
 use Rattle.ojp_timetable.specs.declared.kept.JourneyView.{JourneyView}
 use Rattle.ojp_timetable.specs.Answers.{AreEvents, event_lt, offset_of}
 use Rattle.ojp_timetable.proofs.AmongFacts.{among_insert, among_insert_or, among_inserted}
@@ -25,15 +25,6 @@ use Rattle.ojp_timetable.proofs.ReadFacts.{among_at, at_among, calls_are, moment
 use Rattle.ojp_timetable.proofs.TextFacts.{same_is}
 use Rattle.ojp_stop_events.specs.Found.{AreFirst, HasNoEvent, IsBefore, IsCalled, IsEventOf, RunCall, with_event}
 use Rattle.ojp_stop_events.proofs.PlaceFacts.{take_with}
-
--- a journey tells how many calls it has
-pub calls_told : (journeys : List Journey) (i : ℕ) (view : JourneyView) → Some view ≡ option_map view_of (slice_get journeys i) → view.calls ≡ length (calls_at journeys i)
-unfolding calls_at
-calls_told journeys i view e = of_journey (slice_get journeys i) e
-  where
-    of_journey : (o : Option Journey) → Some view ≡ option_map view_of o → view.calls ≡ length (unwrap_or (option_map (λ (journey : Journey). journey.calls) o) [])
-    of_journey None e = absurd (none-some view (sym e))
-    of_journey (Some journey) e = ap (λ (v : JourneyView). v.calls) (same_Some view (view_of journey) e)
 
 -- ---- the order of events
 

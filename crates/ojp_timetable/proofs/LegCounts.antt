@@ -20,7 +20,8 @@ timed : (o : Option Place) (change : ℕ) → option_map (λ (place : Place). pl
 timed None change e = absurd (cc)
 timed (Some place) change e = let is : place.change ≡ change = cc in (place, refl, is)
 
-change_takes_time : (table : Timetable) (stop : Text) (change : ℕ) → IsWell table → change_of table stop ≡ Some change → 1 ≤ change
+-- a change takes a second at least
+pub change_takes_time : (table : Timetable) (stop : Text) (change : ℕ) → IsWell table → change_of table stop ≡ Some change → 1 ≤ change
 unfolding place_of
 change_takes_time table stop change well e =
     let at = timed (find (λ place. same stop place.stop) table.places) change e in

@@ -1,5 +1,5 @@
 -- Journeys that are read by their numbers, and when a moment of an operating day may be.
-use Rattle.std.proofs.Common.{◌≡◌, ℕ, suc, zero, ◌+◌, ◌*◌, ◌≤◌, List, [], ◌∷◌, length, Some, sym, ◌∙◌, ap, arith, slice_get}
+use Rattle.std.proofs.Common.{◌≡◌, ℕ, suc, zero, ◌+◌, ◌*◌, ◌≤◌, List, [], ◌∷◌, length, Some, None, sym, ◌∙◌, ap, arith, slice_get}
 use Rattle.std.specs.Prelude.{Option, option_map, unwrap_or}
 use Rattle.std.proofs.lemmas.List.Sums.{sum_by-cons}
 use Rattle.std.proofs.lemmas.Option.{none-some, same_Some}
@@ -20,6 +20,15 @@ one_number (j ∷ js) zero (suc k) x y h a b e =
 one_number (j ∷ js) (suc i) zero x y h a b e =
     absurd (each_read (λ (other : Journey). j.id ≡ other.id → ⊥) js i x h.0 a (ap (λ (o : Journey). o.id) (same_Some j y b) ∙ sym e))
 one_number (j ∷ js) (suc i) (suc k) x y h a b e = ap (λ (n : ℕ). suc n) (one_number js i k x y h.1 a b e)
+
+-- a journey tells how many calls it has
+pub calls_told : (journeys : List Journey) (i : ℕ) (view : JourneyView) → Some view ≡ option_map view_of (slice_get journeys i) → view.calls ≡ length (calls_at journeys i)
+unfolding calls_at
+calls_told journeys i view e = of_journey (slice_get journeys i) e
+  where
+    of_journey : (o : Option Journey) → Some view ≡ option_map view_of o → view.calls ≡ length (unwrap_or (option_map (λ (journey : Journey). journey.calls) o) [])
+    of_journey None e = absurd (none-some view (sym e))
+    of_journey (Some journey) e = ap (λ (v : JourneyView). v.calls) (same_Some view (view_of journey) e)
 
 -- the calls of a journey are not more than those of all journeys
 pub calls_among : (journeys : List Journey) (i : ℕ) (of : Journey) → slice_get journeys i ≡ Some of → length of.calls ≤ calls_of journeys

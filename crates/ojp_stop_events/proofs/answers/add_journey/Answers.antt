@@ -2,7 +2,8 @@ use Rattle.std.proofs.Common.{◌≡◌, ◌≤◌, ◌+◌, Some, Vec, Global, 
 use Rattle.ojp_values.specs.declared.trips.Event.{Event}
 use Rattle.ojp_timetable.specs.Views.{calls_at}
 use Rattle.ojp_stop_events.specs.Found.{AreFirst}
-use Rattle.ojp_stop_events.proofs.EventFacts.{call_here, called, calls_told, elsewhere, no_more_calls, to_next_call}
+use Rattle.ojp_timetable.proofs.ReadFacts.{calls_told}
+use Rattle.ojp_stop_events.proofs.EventFacts.{call_here, called, elsewhere, no_more_calls, to_next_call}
 use Rattle.ojp_stop_events.proofs.answers.add_journey.Goals as goal
 use Rattle.ojp_stop_events.proofs.answers.add_journey.Goals.{then-is_at_stop+in_ok-add_call, else-is_at_stop}
 
