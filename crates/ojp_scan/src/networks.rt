@@ -32,7 +32,9 @@ fn services_of(alloc: Global, table: &Timetable) -> Result<Vec<u32>, NoMemory>
     requires { IsWell table.now }
     ensures { IfOk result (λ services. HaveServices services.items table.now (length table.now.journeys)) }
 {
-    let mut services = Vec::new(alloc);
+    let Ok(mut services) = Vec::with_capacity(alloc, table.journeys()) else {
+        return Err(NoMemory);
+    };
     'journeys: for index in 0..table.journeys() {
         if services.push(service_at(table, index)).is_err() {
             return Err(NoMemory);
@@ -54,7 +56,9 @@ fn service_at(table: &Timetable, index: usize) -> u32
 fn changes_of(alloc: Global, table: &Timetable) -> Result<Vec<u32>, NoMemory>
     ensures { IfOk result (λ changes. HaveChanges changes.items table.now (length table.now.places)) }
 {
-    let mut changes = Vec::new(alloc);
+    let Ok(mut changes) = Vec::with_capacity(alloc, table.places()) else {
+        return Err(NoMemory);
+    };
     'places: for index in 0..table.places() {
         if changes.push(change_at(table, index)).is_err() {
             return Err(NoMemory);

@@ -38,7 +38,7 @@ impl Timetable {
     ghost use Rattle.ojp_values.specs.Texts.{same};
     ghost use Rattle.ojp_timetable.specs.Kept.{IsAtPlace};
     ghost use Rattle.ojp_timetable.specs.Tables.{Journey as JourneyValue, Place as PlaceValue, change_of, has, name_of};
-    ghost use Rattle.ojp_timetable.specs.Runs.{IsWell, RunsOn, moment};
+    ghost use Rattle.ojp_timetable.specs.Runs.{IsWell, RunsOn, calls_of, moment};
     ghost use Rattle.ojp_timetable.specs.Views.{calls_at, dates_of, place_view, view_of};
     ghost use Rattle.ojp_timetable.specs.TableText.{IsText};
     ghost use Rattle.ojp_timetable.specs.Refusals.{IsRefusal};
@@ -198,6 +198,14 @@ impl Timetable {
         ensures { result ≡ length self.now.journeys }
     {
         self.draft.journeys()
+    }
+
+    /// The number of calls of all journeys.
+    #[tactic(auto, unfolding(crate::specs::Contents::calls_in))]
+    pub fn calls(&self) -> usize
+        ensures { result ≡ calls_of self.now.journeys }
+    {
+        self.draft.calls()
     }
 
     /// The journey of that number.
