@@ -11,6 +11,7 @@ use Rattle.ojp_timetable.specs.Lines.{Above}
 use Rattle.ojp_timetable.specs.Tables.{Call}
 use Rattle.ojp_timetable.specs.WellContents.{GoesOnFrom}
 use Rattle.ojp_timetable.specs.declared.kept.FoundCall.{FoundCall}
+use Rattle.ojp_timetable.specs.declared.kept.SaidCall.{SaidCall}
 use Rattle.ojp_timetable.specs.declared.file.lines.Line.TheVariants as Line
 use Rattle.ojp_timetable.specs.declared.file.lines.TableReason.{TableReason}
 use Rattle.ojp_timetable.specs.declared.file.words.Word.{Word}
@@ -40,11 +41,11 @@ goes_on Begun stop arrives departs h =
 goes_on (Since d) stop arrives departs h = some_time (is_dash arrives) (number arrives) h
 
 -- a call that is read of its fields goes on where it may stand
-pub call_goes_on : (left : Open) (stop arrives departs : Text) (read : Result Call TableReason) → called read ≡ call_said stop arrives departs
-    → may_call left arrives departs ≡ true → IfOk read (GoesOnFrom left)
+pub call_goes_on : (left : Open) (stop arrives departs : Text) (read : Result SaidCall TableReason) → called read ≡ call_said stop arrives departs
+    → may_call left arrives departs ≡ true → IfOk read (λ (said : SaidCall). GoesOnFrom left said.call)
 call_goes_on left stop arrives departs (Err reason) e h = tt
-call_goes_on left stop arrives departs (Ok call) e h =
-    subst (GoesOnFrom left) (same_call call _ _ e) (goes_on left stop arrives departs h)
+call_goes_on left stop arrives departs (Ok said) e h =
+    subst (GoesOnFrom left) (same_call said.call _ _ e) (goes_on left stop arrives departs h)
   where
     same_call : (x y : Call) (b : Bool) → Ok (Line.Call x) ≡ valued b (Line.Call y) → y ≡ x
     same_call x y true e = cc
@@ -104,9 +105,9 @@ fields_behind before rest None e = e.1 ∙ sym (ap (λ (fields : List Text). dro
 fields_behind before rest (Some field) e = sym (ap (λ (fields : List Text). drop 1 fields) e)
 
 -- a failed reading says its reason
-pub failed : (read : Result Call TableReason) (reason : TableReason) → IsErrAnd read (λ e. e ≡ reason) → called read ≡ Err reason
+pub failed : (read : Result SaidCall TableReason) (reason : TableReason) → IsErrAnd read (λ e. e ≡ reason) → called read ≡ Err reason
 failed (Err e) reason h = ap Err h
-failed (Ok call) reason h = absurd h
+failed (Ok said) reason h = absurd h
 
 pub failed_found : (read : Result FoundCall TableReason) (reason : TableReason) → IsErrAnd read (λ e. e ≡ reason) → found_said read ≡ Err reason
 failed_found (Err e) reason h = ap Err h

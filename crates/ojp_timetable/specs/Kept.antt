@@ -5,6 +5,7 @@ use Rattle.ojp_timetable.specs.Tables.{Place, Service, Journey, Call}
 use Rattle.ojp_timetable.specs.declared.kept.PlaceFacts.{PlaceFacts}
 use Rattle.ojp_timetable.specs.declared.kept.FoundCall.{FoundCall}
 use Rattle.ojp_timetable.specs.declared.kept.KeptCall.{KeptCall}
+use Rattle.ojp_timetable.specs.declared.kept.SaidCall.{SaidCall}
 use Rattle.ojp_timetable.specs.declared.kept.Head.{Head}
 use Rattle.ojp_timetable.specs.declared.file.lines.Dates.{Dates}
 
@@ -47,6 +48,10 @@ AreAtPlaces places (kept ∷ more) = HasNumber places (stop_of places kept.place
 -- the number is that of the call's stop
 abbrev pub IsAtPlace : List Place → FoundCall → Type 0
 IsAtPlace places found = HasNumber places found.call.stop found.place
+
+-- the stop of the call was looked up
+abbrev pub IsLookedUp : List Place → SaidCall → Type 0
+IsLookedUp places said = said.place ≡ position (λ (place : Place). bytes_eq said.call.stop place.stop) places
 
 abbrev pub service_kept : Text × Dates → Service
 service_kept entry = record { id = entry.0; first = entry.1.first; last = entry.1.last; marks = entry.1.marks }

@@ -10,6 +10,7 @@ use Rattle.ojp_zones.specs.declared.zone.Zone.{Zone as ZoneValue}
 use Rattle.ojp_timetable.specs.Fields.{fields_of, joined}
 use Rattle.ojp_timetable.specs.Tables.{Call}
 use Rattle.ojp_timetable.specs.declared.kept.FoundCall.{FoundCall}
+use Rattle.ojp_timetable.specs.declared.kept.SaidCall.{SaidCall}
 use Rattle.ojp_timetable.specs.declared.file.lines.Line.{Line}
 use Rattle.ojp_timetable.specs.declared.file.lines.Line.TheVariants as lines
 use Rattle.ojp_timetable.specs.declared.file.lines.Open.{Open}
@@ -102,8 +103,8 @@ call_said stop arrives departs =
     (lines.Call (record { stop = stop; arrives = offset arrives; departs = offset departs }))
 
 -- what a call line says, as what a line says
-abbrev pub called : Result Call TableReason → Said
-called (Ok call) = Ok (lines.Call call)
+abbrev pub called : Result SaidCall TableReason → Said
+called (Ok said) = Ok (lines.Call said.call)
 called (Err reason) = Err reason
 
 -- and so of a call whose stop was found

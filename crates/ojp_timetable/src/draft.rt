@@ -1,5 +1,5 @@
 //! What the lines of a file declare, while it grows.
-ghost use Rattle.std.specs.Prelude.{◌≡◌, ◌≤◌, false, true, ◌<◌, IfOk, OnOk, OnErr, is_some, length, option_copied, find, bytes_eq, unwrap_or, option_map, position, slice_get, IfSome, ◌^◌, [], ◌∷◌, ◌++◌};
+ghost use Rattle.std.specs.Prelude.{◌≡◌, ◌≤◌, ◌↔◌, false, true, ◌<◌, IsSome, IsTrue, IfOk, OnOk, OnErr, is_some, length, option_copied, find, bytes_eq, unwrap_or, option_map, position, slice_get, IfSome, ◌^◌, [], ◌∷◌, ◌++◌};
 ghost use Rattle.ojp_timetable.specs.Kept.{end_at};
 ghost use Rattle.ojp_values.specs.declared.trips.Point.{Point as PointValue};
 ghost use Rattle.ojp_values.specs.declared.trips.Neighbour.{Neighbour as NeighbourValue};
@@ -115,7 +115,7 @@ impl Draft {
     ghost use Rattle.ojp_timetable.specs.declared.kept.FoundCall.{FoundCall as FoundCallValue};
     ghost use Rattle.ojp_timetable.specs.Views.{calls_at, dates_of, place_view, view_of};
     ghost use Rattle.ojp_timetable.specs.Tables.{Journey as JourneyValue, Place as PlaceValue};
-    ghost use Rattle.ojp_values.specs.Texts.{same};
+    ghost use Rattle.ojp_values.specs.Texts.{is_stop_ref, same};
     ghost use Rattle.ojp_timetable.specs.Lines.{grown, new_point, points_with_place, HasRegionFor};
 
     /// Nothing is declared; takes no memory.
@@ -438,6 +438,18 @@ impl Draft {
         ensures known { is_some result ≡ has_place self.now stop.now }
     {
         self.stops.number(stop)
+    }
+
+    /// The reference that the text is, with the number of its place where it stands above.
+    #[inline(always)]
+    #[tactic(auto, unfolding(crate::specs::Contents::has_place, ojp_values::specs::Texts::same))]
+    pub fn stop_of(&self, text: &[u8]) -> Option<(StopRef, Option<usize>)>
+        ensures exact { IsSome result ↔ IsTrue (is_stop_ref text.now) }
+        ensures value { IfSome result (λ found. found.0 ≡ text.now) }
+        ensures first { IfSome result (λ found. found.1 ≡ position (λ (place : PlaceValue). bytes_eq text.now place.stop) self.now.places) }
+        ensures known { IfSome result (λ found. is_some found.1 ≡ has_place self.now text.now) }
+    {
+        self.stops.read(text)
     }
 
     /// The exchange points by rising reference.

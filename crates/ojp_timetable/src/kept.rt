@@ -26,6 +26,13 @@ pub struct FoundCall {
     pub place: usize,
 }
 
+/// A call that a line says, with the number of its stop where it stands above.
+#[derive(Clone, Copy, Debug)]
+pub struct SaidCall {
+    pub call: Call,
+    pub place: Option<usize>,
+}
+
 /// A call as it is kept: the number of its stop among the places, its arrival and its departure.
 #[derive(Clone, Copy, Debug)]
 pub struct KeptCall {

@@ -1,13 +1,48 @@
 //! The stops of a timetable and the calls at them.
-ghost use Rattle.std.specs.Prelude.{◌≡◌, ◌<◌, false, is_some, IfOk, IfSome, OnOk, OnErr, length, option_map, find, bytes_eq, position, slice_get, [], ◌∷◌, ◌++◌};
+ghost use Rattle.std.specs.Prelude.{◌≡◌, ◌<◌, ◌↔◌, false, is_some, IfOk, IfSome, IsSome, IsTrue, OnOk, OnErr, length, option_map, find, bytes_eq, position, slice_get, [], ◌∷◌, ◌++◌};
 ghost use Rattle.std.specs.List.{list_any};
+ghost use Rattle.std.specs.Cmp.Lexicographic.{bytes_decides, nat_list_eq_equiv};
+ghost use Rattle.std.specs.Hash as fed;
+ghost use Rattle.std.specs.Cmp.Rules.{hashing};
+ghost use Rattle.std.proofs.Common.{ap, rules};
+ghost use Rattle.ojp_values.specs.Texts.{is_stop_ref};
 
 use crate::calls::Call;
 use crate::kept::{FoundCall, KeptCall, PlaceFacts, PlaceView};
-use indexmap::IndexMap;
+use indexmap::{Equivalent, IndexMap};
 use ojp_values::{Name, NoMemory, StopRef};
 use std::alloc::Global;
+use std::hash::{Hash, Hasher};
 use std::marker::Model;
+
+/// The text of a stop's reference, by which the stop is looked up before it is read.
+#[derive(Clone, Copy, PartialEq, Eq)]
+struct StopText<'a> {
+    text: &'a [u8],
+}
+
+impl<'a> Hash for StopText<'a> {
+    ghost hash_input = { λ stop. fed.str stop.text.now };
+
+    ghost respects_eq = { Prim.search (hashing, rules) };
+
+    fn hash<H: Hasher>(&self, state: &mut H) {
+        state.write(self.text);
+        state.write_u8(0xff);
+    }
+}
+
+impl<'a> Equivalent<StopRef> for StopText<'a> {
+    ghost equivalent = { λ stop key. bytes_eq stop.text.now key };
+
+    ghost respects_hash = { λ stop key h. ap fed.str ((bytes_decides stop.text.now key).0 h) };
+
+    ghost respects_eq = { λ stop x y. nat_list_eq_equiv.congr stop.text.now x y };
+
+    fn equivalent(&self, key: &StopRef) -> bool {
+        self.text == key.text()
+    }
+}
 
 /// The stops with the exchange points, in the order of the file, and the calls at them in one row,
 /// each of which is kept by the number of its stop.
@@ -70,6 +105,35 @@ impl Stops {
         ensures known { is_some result ≡ list_any (λ (place : PlaceValue). bytes_eq stop.now place.stop) self.now.places }
     {
         self.facts.get_index_of(stop)
+    }
+
+    // The number of the stop whose reference has the text.
+    fn number_of(&self, text: &[u8]) -> Option<usize>
+        ensures first { result ≡ position (λ (place : PlaceValue). bytes_eq text.now place.stop) self.now.places }
+        ensures known { is_some result ≡ list_any (λ (place : PlaceValue). bytes_eq text.now place.stop) self.now.places }
+    {
+        self.facts.get_index_of(StopText { text })
+    }
+
+    /// The reference that the text is, with the number of its stop where that is one of them. Its text is not read
+    /// anew then.
+    pub fn read(&self, text: &[u8]) -> Option<(StopRef, Option<usize>)>
+        ensures exact { IsSome result ↔ IsTrue (is_stop_ref text.now) }
+        ensures value { IfSome result (λ found. found.0 ≡ text.now) }
+        ensures first { IfSome result (λ found. found.1 ≡ position (λ (place : PlaceValue). bytes_eq text.now place.stop) self.now.places) }
+        ensures known { IfSome result (λ found. is_some found.1 ≡ list_any (λ (place : PlaceValue). bytes_eq text.now place.stop) self.now.places) }
+    {
+        match self.number_of(text) {
+            Some(number) => {
+                let stop = self.stop_at(number);
+                stop.text();
+                Some((stop, Some(number)))
+            }
+            None => {
+                let stop = StopRef::from_bytes(text)?;
+                Some((stop, None))
+            }
+        }
     }
 
     /// The change time and the name of the stop.

@@ -6,14 +6,13 @@ ghost use Rattle.ojp_timetable.specs.Kept.{IsAtPlace};
 ghost use Rattle.ojp_timetable.specs.Said.{found_said, is_call_line};
 ghost use Rattle.ojp_zones.specs.Noons.{IsZone};
 
-use crate::calls::Call;
 use crate::draft::Draft;
 use crate::file::checks::{first_failing, first_failing_of_call};
 use crate::file::fields::body;
 use crate::file::lines::{Line, Open, TableReason};
 use crate::file::refusals::{LineRefused, TableRefused};
 use crate::file::said::{is_call_line, is_closed, left_by, left_open, read_call_line, read_said};
-use crate::kept::FoundCall;
+use crate::kept::{FoundCall, SaidCall};
 use ojp_outside::FILE_LIMIT;
 use std::alloc::Global;
 use std::marker::Model;
@@ -31,13 +30,16 @@ pub struct Above {
 }
 
 // The call with the number of its stop.
-fn found(call: Call, place: Option<usize>) -> FoundCall
-    requires { IsSome place }
-    ensures call { result.call ≡ call }
-    ensures place { place ≡ Some result.place }
+fn found(said: SaidCall) -> FoundCall
+    requires { IsSome said.place }
+    ensures call { result.call ≡ said.call }
+    ensures place { said.place ≡ Some result.place }
 {
-    match place {
-        Some(place) => FoundCall { call, place },
+    match said.place {
+        Some(place) => FoundCall {
+            call: said.call,
+            place,
+        },
         None => unreachable!(),
     }
 }
@@ -120,7 +122,7 @@ impl Above {
         ensures passes { IfOk result (Passes self.now.contents self.now.left) }
         ensures short { OnOk result (self.now.bytes + length text.now ≤ BYTES) }
     {
-        let line = read_said(self.lines, self.draft.region_text(), &self.left, body(text))?;
+        let line = read_said(self.lines, &self.draft, &self.left, body(text))?;
         match first_failing(&self.draft, &self.left, self.is_long(text), &line) {
             None => Ok(line),
             Some(reason) => Err(reason),
@@ -139,11 +141,11 @@ impl Above {
         ensures place { IfOk result (IsAtPlace self.now.contents.places) }
         ensures short { OnOk result (self.now.bytes + length text.now ≤ BYTES) }
     {
-        let call = read_call_line(&self.left, body(text))?;
-        let place = self.draft.place_number(&call.stop);
-        let is_known = place.is_some();
-        match first_failing_of_call(&self.draft, &self.left, self.is_long(text), is_known, &call) {
-            None => Ok(found(call, place)),
+        let said = read_call_line(&self.draft, &self.left, body(text))?;
+        let is_known = said.place.is_some();
+        let is_long = self.is_long(text);
+        match first_failing_of_call(&self.draft, &self.left, is_long, is_known, &said.call) {
+            None => Ok(found(said)),
             Some(reason) => Err(reason),
         }
     }

@@ -1,7 +1,7 @@
 //! The checks of a line that speak of the lines above it, in their order.
-ghost use Rattle.std.specs.Prelude.{◌≡◌, ◌≤◌, false, length, None, position};
-ghost use Rattle.std.specs.List.{list_any, position_or_len};
-ghost use Rattle.ojp_values.specs.Texts.{code_part, is_colon, same};
+ghost use Rattle.std.specs.Prelude.{◌≡◌, false, None};
+ghost use Rattle.std.specs.List.{list_any};
+ghost use Rattle.ojp_values.specs.Texts.{same};
 ghost use Rattle.ojp_values.specs.declared.trips.Neighbour.{Neighbour as NeighbourValue};
 ghost use Rattle.ojp_timetable.specs.Contents.{has_place};
 ghost use Rattle.ojp_timetable.specs.WellContents.{Passes};
@@ -13,33 +13,15 @@ use crate::file::fields::is_same;
 use crate::file::lines::{Line, Open, TableReason};
 use ojp_values::{Code, Neighbour, StopRef};
 
-// Where the first colon stands.
-fn first_colon(text: &[u8]) -> Option<usize>
-    ensures { result ≡ position is_colon text.now }
-{
-    text.iter().position(|b| *b == b':')
-}
-
-// The number of bytes before the first colon.
-fn colon_place(text: &[u8]) -> usize
-    ensures value { result ≡ position_or_len is_colon text.now }
-    ensures fits { result ≤ length text.now }
-{
-    first_colon(text).unwrap_or(text.len())
-}
-
-// What stands before the first colon.
-fn code_part(text: &[u8]) -> &[u8]
-    ensures { result.now ≡ code_part text.now }
-{
-    text.split_at(colon_place(text)).0
-}
-
 // Whether this is an own stop of another region.
+#[tactic(auto, unfolding(ojp_values::specs::Texts::home))]
 fn is_stop_elsewhere(region: &[u8], stop: &StopRef) -> bool
     ensures { result ≡ is_stop_elsewhere region.now stop.now }
 {
-    !stop.is_exchange() && !is_same(code_part(stop.text()), region)
+    match stop.region() {
+        Some(code) => !is_same(code.text(), region),
+        None => false,
+    }
 }
 
 #[tactic(auto, unfolding(crate::specs::Checks::is_foreign))]

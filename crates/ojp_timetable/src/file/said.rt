@@ -1,19 +1,23 @@
 //! Reading what a line says.
-ghost use Rattle.std.specs.Prelude.{◌≡◌, ◌≤◌, ◌↔◌, true, false, IsTrue, IsSome, IfSome, MatchOption, IfOk, ◌∷◌, [], List, ℕ, codes};
+ghost use Rattle.std.specs.Prelude.{◌≡◌, ◌≤◌, ◌↔◌, true, false, IsTrue, IsSome, IfSome, MatchOption, IfOk, ◌∷◌, [], List, ℕ, codes, is_some};
 ghost use Rattle.std.specs.List.{list_all};
 ghost use Rattle.ojp_values.specs.Texts.{same};
 ghost use Rattle.ojp_values.specs.declared.moments.TheConstants.{FIRST_DAY, LAST_DAY};
 ghost use Rattle.ojp_timetable.specs.Lines.{IsWellLine, left_by, left_open};
 ghost use Rattle.ojp_timetable.specs.Runs.{IsOffset};
+ghost use Rattle.ojp_timetable.specs.Contents.{has_place};
+ghost use Rattle.ojp_timetable.specs.Kept.{IsLookedUp};
 ghost use Rattle.ojp_timetable.specs.WellContents.{GoesOnFrom, MayStand, MayStandClosed};
 ghost use Rattle.ojp_timetable.specs.Fields.{fields_of, IsNotThree, IsNotTwo};
 ghost use Rattle.ojp_timetable.specs.Said.{are_marks, call_fields, call_said, called, day_of, entry_said, header_said, is_call_line, is_closed, is_dash, is_mark, is_offset, journey_fields, journey_said, marks_of, may_call, neighbour_fields, neighbour_said, offset, place_fields, place_said, region_said, said, service_fields, service_said, word_fields, zone_said};
 
 use crate::calls::Call;
+use crate::draft::Draft;
 use crate::file::fields::{Fields, is_same};
 use crate::file::lines::{Dates, Line, Open, TableReason};
 use crate::file::read_words::word_of;
 use crate::file::words::Word;
+use crate::kept::SaidCall;
 use ojp_values::{Code, Day, Label, Name, Neighbour, StopRef};
 use ojp_zones::numbers::read_number;
 use ojp_zones::zone_text::read_zone;
@@ -177,11 +181,18 @@ fn read_offset(text: &[u8]) -> Option<Option<u32>>
 
 // A call with its arrival and its departure.
 #[inline(always)]
-fn read_call(stop: &[u8], arrives: &[u8], departs: &[u8]) -> Result<Call, TableReason>
+fn read_call(
+    draft: &Draft,
+    stop: &[u8],
+    arrives: &[u8],
+    departs: &[u8],
+) -> Result<SaidCall, TableReason>
     ensures value { called result ≡ call_said stop.now arrives.now departs.now }
-    ensures within { IfOk result (λ call. IsOffset call.arrives × IsOffset call.departs) }
+    ensures within { IfOk result (λ said. IsOffset said.call.arrives × IsOffset said.call.departs) }
+    ensures place { IfOk result (IsLookedUp draft.now.places) }
+    ensures known { IfOk result (λ said. is_some said.place ≡ has_place draft.now said.call.stop) }
 {
-    let Some(stop) = StopRef::from_bytes(stop) else {
+    let Some((stop, place)) = draft.stop_of(stop) else {
         return Err(TableReason::Value);
     };
     let Some(arrives) = read_offset(arrives) else {
@@ -190,11 +201,12 @@ fn read_call(stop: &[u8], arrives: &[u8], departs: &[u8]) -> Result<Call, TableR
     let Some(departs) = read_offset(departs) else {
         return Err(TableReason::Value);
     };
-    Ok(Call {
+    let call = Call {
         stop,
         arrives,
         departs,
-    })
+    };
+    Ok(SaidCall { call, place })
 }
 
 /// Whether a declaration may stand here.
@@ -314,15 +326,21 @@ fn read_journey_fields(fields: &mut Fields<'_>) -> Result<Line, TableReason>
 
 // The fields behind `call`.
 #[inline(always)]
-fn read_call_fields(left: &Open, fields: &mut Fields<'_>) -> Result<Call, TableReason>
+fn read_call_fields(
+    draft: &Draft,
+    left: &Open,
+    fields: &mut Fields<'_>,
+) -> Result<SaidCall, TableReason>
     ensures value { called result ≡ call_fields left.now fields.old }
-    ensures within { IfOk result (λ call. IsOffset call.arrives × IsOffset call.departs) }
-    ensures stands { IfOk result (GoesOnFrom left.now) }
+    ensures within { IfOk result (λ said. IsOffset said.call.arrives × IsOffset said.call.departs) }
+    ensures stands { IfOk result (λ said. GoesOnFrom left.now said.call) }
+    ensures place { IfOk result (IsLookedUp draft.now.places) }
+    ensures known { IfOk result (λ said. is_some said.place ≡ has_place draft.now said.call.stop) }
 {
     match three(fields) {
         Some((stop, arrives, departs)) => {
             if may_call(left, arrives, departs) {
-                read_call(stop, arrives, departs)
+                read_call(draft, stop, arrives, departs)
             } else {
                 Err(TableReason::LineForm)
             }
@@ -352,40 +370,42 @@ pub fn is_call_line(line: &[u8]) -> bool
 }
 
 /// The call of a line below the third that begins with its word.
-pub fn read_call_line(left: &Open, line: &[u8]) -> Result<Call, TableReason>
+pub fn read_call_line(draft: &Draft, left: &Open, line: &[u8]) -> Result<SaidCall, TableReason>
     requires { is_call_line line.now ≡ true }
     ensures value { (region : List ℕ) → called result ≡ entry_said region left.now (fields_of line.now) }
-    ensures within { IfOk result (λ call. IsOffset call.arrives × IsOffset call.departs) }
-    ensures stands { IfOk result (GoesOnFrom left.now) }
+    ensures within { IfOk result (λ said. IsOffset said.call.arrives × IsOffset said.call.departs) }
+    ensures stands { IfOk result (λ said. GoesOnFrom left.now said.call) }
+    ensures place { IfOk result (IsLookedUp draft.now.places) }
+    ensures known { IfOk result (λ said. is_some said.place ≡ has_place draft.now said.call.stop) }
 {
     let mut fields = Fields::new(line);
     let _ = fields.next();
-    read_call_fields(left, &mut fields)
+    read_call_fields(draft, left, &mut fields)
 }
 
 // A call as a line.
-fn call_line(read: Result<Call, TableReason>) -> Result<Line, TableReason>
+fn call_line(read: Result<SaidCall, TableReason>) -> Result<Line, TableReason>
     ensures { result ≡ called read }
 {
     match read {
-        Ok(call) => Ok(Line::Call(call)),
+        Ok(said) => Ok(Line::Call(said.call)),
         Err(reason) => Err(reason),
     }
 }
 
 // The fields behind the word.
 fn read_word_fields(
-    region: &[u8],
+    draft: &Draft,
     left: &Open,
     word: Word,
     fields: &mut Fields<'_>,
 ) -> Result<Line, TableReason>
-    ensures value { result ≡ word_fields region.now left.now word fields.old }
+    ensures value { result ≡ word_fields draft.now.region left.now word fields.old }
     ensures well { IfOk result (IsWellLine 3) }
     ensures stands { IfOk result (MayStand left.now) }
 {
     if word == Word::Call {
-        return call_line(read_call_fields(left, fields));
+        return call_line(read_call_fields(draft, left, fields));
     }
     if !is_closed(left) {
         return Err(TableReason::LineForm);
@@ -395,15 +415,15 @@ fn read_word_fields(
         Word::Journey => read_journey_fields(fields),
         Word::Stop => read_place_fields(false, fields),
         Word::Exchange => read_place_fields(true, fields),
-        Word::Neighbour => read_neighbour_fields(region, fields),
+        Word::Neighbour => read_neighbour_fields(draft.region_text(), fields),
         Word::Service => read_service_fields(fields),
     }
 }
 
 // A line below the third.
 #[tactic(auto, unfolding(crate::specs::Said::entry_fields))]
-fn read_entry(region: &[u8], left: &Open, line: &[u8]) -> Result<Line, TableReason>
-    ensures value { result ≡ entry_said region.now left.now (fields_of line.now) }
+fn read_entry(draft: &Draft, left: &Open, line: &[u8]) -> Result<Line, TableReason>
+    ensures value { result ≡ entry_said draft.now.region left.now (fields_of line.now) }
     ensures well { IfOk result (IsWellLine 3) }
     ensures stands { IfOk result (MayStand left.now) }
 {
@@ -413,7 +433,7 @@ fn read_entry(region: &[u8], left: &Open, line: &[u8]) -> Result<Line, TableReas
     };
     match word_of(word) {
         None => Err(TableReason::LineForm),
-        Some(word) => read_word_fields(region, left, word, &mut fields),
+        Some(word) => read_word_fields(draft, left, word, &mut fields),
     }
 }
 
@@ -479,11 +499,11 @@ fn read_zone_line(line: &[u8]) -> Result<Line, TableReason>
     }
 }
 
-/// What the line says by its form and its values, where so many lines are above it, in the region,
-/// and the last of the lines above leaves this open.
+/// What the line says by its form and its values, where so many lines are above it, which declare the
+/// draft, and the last of them leaves this open.
 #[tactic(auto, unfolding(crate::specs::Said::said))]
-pub fn read_said(above: u64, region: &[u8], left: &Open, line: &[u8]) -> Result<Line, TableReason>
-    ensures value { result ≡ said above region.now left.now line.now }
+pub fn read_said(above: u64, draft: &Draft, left: &Open, line: &[u8]) -> Result<Line, TableReason>
+    ensures value { result ≡ said above draft.now.region left.now line.now }
     ensures well { IfOk result (IsWellLine above) }
     ensures stands { IfOk result (MayStand left.now) }
 {
@@ -496,5 +516,5 @@ pub fn read_said(above: u64, region: &[u8], left: &Open, line: &[u8]) -> Result<
     if above == 2 {
         return read_zone_line(line);
     }
-    read_entry(region, left, line)
+    read_entry(draft, left, line)
 }
