@@ -2,16 +2,15 @@
 """Compares what the documents show of `./ojp` with the stored runs that the gate has proved and run.
 
 A shown command is a line `$ ./ojp WORD .. [< FILE]` in a fenced block of README.md or docs/; the lines behind it, up to the next
-`$` or the end of the block, are its output, in which ` ...` stands for what was left out and a line break for nothing. A stored run
-is a program crate over the same words whose files in data/ and stdin are those that the command names. Prints each difference,
-and ends with 1 where there is one.
+`$` or the end of the block, are its output, in which ` ...` stands for what was left out and a line break for nothing. Its stored run
+is one over the same words whose files and input are those that the command names. Prints each difference, and ends with 1 where there
+is one.
 """
-import pathlib
 import re
 import shlex
 import sys
 
-TOP = pathlib.Path(__file__).resolve().parent.parent
+from stored import TOP, stored_runs
 
 
 def expanded(word):
@@ -29,31 +28,28 @@ def shown_commands():
                     yield page, command, output
 
 
-def stored_runs():
-    for crate in sorted((TOP / "crates").iterdir()):
-        if (crate / "src/main.rt").exists() and (crate / "args").exists():
-            yield crate, (crate / "args").read_text().splitlines()
+def bytes_of(path):
+    return path.read_bytes() if path.is_file() else None
 
 
 def same(ours, theirs):
-    return ours.is_file() and theirs.is_file() and ours.read_bytes() == theirs.read_bytes()
+    return ours.is_file() and bytes_of(ours) == bytes_of(theirs)
 
 
-def is_run_of(crate, arguments, words, standard_input):
-    if len(arguments) != len(words):
+def is_run_of(run, words, standard_input):
+    if len(run.words) != len(words):
         return False
-    for argument, word in zip(arguments, words):
-        if argument != word and not same(crate / "data" / argument, TOP / word):
+    for own, word in zip(run.words, words):
+        if own != word and not same(run.data / own, TOP / word):
             return False
-    return standard_input is None or same(crate / "stdin", TOP / standard_input)
+    return standard_input is None or bytes_of(TOP / standard_input) == run.given
 
 
-def differs(crate, output):
+def differs(run, output):
     """Whether the shown pieces do not stand in the stored output, in order, the first at its head."""
-    stored = (crate / "stdout").read_text() if (crate / "stdout").exists() else ""
     at = 0
     for number, piece in enumerate(re.split(r" ?\.\.\.", output.replace("\n", ""))):
-        found = stored.find(piece.strip(), at)
+        found = run.written.find(piece.strip(), at)
         if found < 0 or (number == 0 and found != 0):
             return True
         at = found + len(piece.strip())
@@ -61,15 +57,15 @@ def differs(crate, output):
 
 
 def main():
-    runs, wrong = list(stored_runs()), 0
+    runs, wrong = stored_runs(), 0
     for page, command, output in shown_commands():
         words, _, standard_input = command.partition("<")
         words = [word for given in shlex.split(words)[1:] for word in expanded(given)]
-        of = [crate for crate, arguments in runs if is_run_of(crate, arguments, words, standard_input.strip() or None)]
+        of = [run for run in runs if is_run_of(run, words, standard_input.strip() or None)]
         if not of:
             print(f"{page.relative_to(TOP)}: no stored run of: {command}")
         elif differs(of[0], output):
-            print(f"{page.relative_to(TOP)}: not what {of[0].name} writes: {command}")
+            print(f"{page.relative_to(TOP)}: not what {of[0].crate} writes: {command}")
         else:
             continue
         wrong += 1

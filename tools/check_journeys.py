@@ -1,17 +1,16 @@
 #!/usr/bin/env python3
 """Checks stored trips against timetables with a plain search of its own: check_journeys.py
 
-For each program crate whose `args` are those of `plan` over several files: the legs of the delivery in its `stdout` are a legal
-journey of the united timetable for the request in its `stdin`, and none arrives earlier. A plain search corrects one label for
-each pair of stop and region over all runs of three days until nothing changes; it shares no code with the program. Prints each
-difference, and ends with 1 where there is one.
+For each stored run of `plan` over timetable files: the legs of its delivery are a legal journey of the united timetable for its
+request, and none arrives earlier. A plain search corrects one label for each pair of stop and region over all runs of three days
+until nothing changes; it shares no code with the program. Prints each difference, and ends with 1 where there is one.
 """
 import datetime
-import pathlib
 import re
 import sys
 
-TOP = pathlib.Path(__file__).resolve().parent.parent
+from stored import stored_runs
+
 DAY = 86400
 EPOCH = datetime.date(1970, 1, 1)
 
@@ -139,9 +138,9 @@ def leg_of(text):
     return word("ojp:OperatorRef"), word("ojp:JourneyRef"), day_number(word("ojp:OperatingDayRef")), stops[0], times[0], stops[1], times[1]
 
 
-def differences(crate, files):
-    tables = {table.code: table for table in (Timetable((crate / "data" / it).read_text()) for it in files)}
-    request, delivery = (crate / "stdin").read_text(), (crate / "stdout").read_text()
+def differences(run, files):
+    tables = {table.code: table for table in (Timetable((run.data / it).read_text()) for it in files)}
+    request, delivery = run.given.decode(), run.written
     origin, target = re.findall(r"<StopPointRef>(.*?)</StopPointRef>", request)
     start = moment(re.search(r"<ojp:DepArrTime>(.*?)</ojp:DepArrTime>", request)[1])
     legs = [leg_of(it) for it in re.findall(r"<ojp:TripLeg>.*?</ojp:TripLeg>", delivery)]
@@ -154,12 +153,11 @@ def differences(crate, files):
 
 def main():
     wrong = 0
-    for crate in sorted((TOP / "crates").iterdir()):
-        words = (crate / "args").read_text().splitlines() if (crate / "args").exists() else []
-        files = [it for it in words[1:] if it.endswith(".tt")]
-        if words[:1] == ["plan"] and files:
-            for said in differences(crate, files):
-                print(f"{crate.name}: {said}")
+    for run in stored_runs():
+        files = [it for it in run.words[1:] if it.endswith(".tt")]
+        if run.words[:1] == ["plan"] and files:
+            for said in differences(run, files):
+                print(f"{run.crate}, {' '.join(run.words)}: {said}")
                 wrong += 1
     return 1 if wrong else 0
 

@@ -14,7 +14,8 @@ import tempfile
 import threading
 import time
 
-TOP = pathlib.Path(__file__).resolve().parent.parent
+from stored import TOP, stored_runs
+
 PROGRAM = sys.argv[1] if len(sys.argv) > 1 else str(TOP / "crates/ojp/out/ojp")
 NETWORK = TOP / "examples/network"
 NAMES = ["channel", "jura", "paris", "rhine", "thames"]
@@ -149,8 +150,8 @@ def five_regions(folder):
     regions.write_text("".join(f"{CODES[name]} 127.0.0.1 {before.port if name == 'rhine' else ports[name]}\n" for name in NAMES))
     port = free_port()
     gateway = started("gateway", regions, port)
-    expected = (TOP / "crates/ojp_example/stdout").read_bytes()
     trip = request("reading-olten")
+    expected = next(run.written.encode() for run in stored_runs() if run.given == trip)
     failed = b"<ojp:Code>REGION_FAILED</ojp:Code><ojp:Subject>RHINE</ojp:Subject>"
     arrives = expected.split(b"<ojp:EndTime>")[1][:20]
     given = lambda: answer(port, trip)

@@ -1,5 +1,7 @@
 //! The connections of a row.
 
+use crate::outcome::PIECE;
+use crate::row::WITHIN;
 use ojp_http::request;
 use ojp_outside::MemSource;
 use ojp_values::read_number;
@@ -8,7 +10,7 @@ use std::alloc::Global;
 /// The connections, parted by lines of four hyphens. Each is read in pieces of at most 100 bytes.
 pub fn connections_of(alloc: Global, texts: &str) -> Option<Vec<MemSource>> {
     let mut connections = Vec::new(alloc);
-    for text in texts.split("----\n") {
+    for text in texts.split(WITHIN) {
         if !text.is_empty() {
             connections.push(connection_of(alloc, text)?).ok()?;
         }
@@ -49,7 +51,7 @@ fn filled(alloc: Global, length: &str) -> Option<MemSource> {
 }
 
 fn source(bytes: Vec<u8>, failing: Vec<u64>) -> MemSource {
-    MemSource::new(bytes, 100, failing)
+    MemSource::new(bytes, PIECE, failing)
 }
 
 /// The lines, each with the end that lines of a head have.
