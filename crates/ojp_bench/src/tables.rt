@@ -1,41 +1,20 @@
-//! Measures what a region does once over the largest timetable, and the book of as many regions as it may have:
-//! `ojp_bench_tables ROUNDS`. What a round made goes to standard output, its processor time to standard error.
-#![tactic(auto)]
+//! What a region does once over the largest timetable, and the book of as many regions as it may have. What a round made
+//! goes to standard output, its processor time to standard error.
 
 ghost use Rattle.ojp_exchange.specs.Joins.{AreWellLists};
 ghost use Rattle.ojp_scan.specs.Scans.{IsMadeFor};
 
-mod lists;
-mod texts;
-
 use crate::lists::lists;
 use crate::texts::{FIRST_OWN, MIDNIGHT, text};
+use crate::timing::now;
 use ojp_exchange::{Book, RegionPoints};
 use ojp_scan::Scan;
 use ojp_timetable::Timetable;
 use ojp_values::{Instant, StopRef};
-use std::env;
-use std::process::ExitCode;
-use std::time::{CpuClock, Duration};
-
-fn main(rt: HostRuntime) -> ExitCode {
-    match run(&rt) {
-        Some(()) => ExitCode::SUCCESS,
-        None => ExitCode::FAILURE,
-    }
-}
-
-/// Does each work as often as the word says.
-fn run(rt: &HostRuntime) -> Option<()> {
-    let mut words = env::args(rt).ok()?.skip(1);
-    let rounds = words.next()?.parse::<u32>().ok()?;
-    scans(rt, rounds)?;
-    joins(rt, 500, rounds)?;
-    joins(rt, 2_000, rounds)
-}
+use std::time::Duration;
 
 /// Scans the largest timetable so often.
-fn scans(rt: &HostRuntime, rounds: u32) -> Option<()> {
+pub fn scans(rt: &HostRuntime, rounds: u32) -> Option<()> {
     let text = text(rt.alloc())?;
     let bytes = text.len();
     println!(rt; "text {bytes}").ok()?;
@@ -45,8 +24,14 @@ fn scans(rt: &HostRuntime, rounds: u32) -> Option<()> {
     Some(())
 }
 
+/// Joins the books of regions that share 500 and 2,000 points, so often.
+pub fn joins(rt: &HostRuntime, rounds: u32) -> Option<()> {
+    joins_over(rt, 500, rounds)?;
+    joins_over(rt, 2_000, rounds)
+}
+
 /// Joins the book of regions that share so many points, so often.
-fn joins(rt: &HostRuntime, points: u32, rounds: u32) -> Option<()> {
+fn joins_over(rt: &HostRuntime, points: u32, rounds: u32) -> Option<()> {
     let lists = lists(rt.alloc(), points)?;
     join_each(rt, lists.as_slice(), rounds)
 }
@@ -84,11 +69,6 @@ fn scan_table(rt: &HostRuntime, table: &Timetable, begin: Duration) -> Option<()
     tell_times(rt, begin, read, made, found)
 }
 
-/// The processor time of the process.
-fn now(rt: &HostRuntime) -> Option<Duration> {
-    rt.process_cpu_time().ok()
-}
-
 /// Searches from a stop over a day.
 fn search(table: &Timetable, scan: &mut Scan) -> Option<()>
     requires { IsMadeFor scan.old table.now }
@@ -122,15 +102,11 @@ fn tell_times(
 fn join(rt: &HostRuntime, lists: &[RegionPoints]) -> Option<()>
     requires { AreWellLists lists.now }
 {
-    let begin = rt.process_cpu_time().ok()?;
+    let begin = now(rt)?;
     let Ok(book) = Book::join(rt.alloc(), lists) else {
         return None;
     };
-    let joining = rt
-        .process_cpu_time()
-        .ok()?
-        .saturating_sub(begin)
-        .as_micros();
+    let joining = now(rt)?.saturating_sub(begin).as_micros();
     let places = book.places();
     println!(rt; "places {places}").ok()?;
     eprintln!(rt; "join {places} {joining} microseconds").ok()
