@@ -1,9 +1,10 @@
-//! Runs the commands of `ojp`: standard input is parted into sections, each under a line of four number signs and its kind.
-//! Its stored run has what each run of a section gave, under the same line.
+//! Runs the commands of `ojp` and `ojp_gtfs`: standard input is parted into sections, each under a line of four number signs
+//! and its kind. Its stored run has what each run of a section gave, under the same line.
 #![tactic(auto)]
 
 mod command;
 mod files;
+mod gtfs;
 mod here;
 mod loads;
 mod net;
@@ -57,6 +58,7 @@ fn tell_section<R: Runtime>(
         "here" => here::tell_rows(host, rows),
         "net" => net::tell_rows(host, waiting, rows),
         "load" => loads::tell_rows(host, rows),
+        "gtfs" => gtfs::tell_rows(host, rows),
         _ => None,
     }
 }

@@ -1,17 +1,16 @@
-//! Runs of `ojp_gtfs` over the sample feed in memory, each with an edit that one line of standard input gives: its stored run has the
-//! status, what became of the output, and the report, which were worked out by hand.
-#![tactic(auto)]
+//! Runs of `ojp_gtfs` over the sample feed in memory, each with an edit: of each are told the status, what became of the
+//! output, and the report.
 
 mod edits;
 mod rows;
 
-use crate::edits::edited;
-use crate::rows::{Row, row_of};
+use crate::command::words_of;
+use crate::gtfs::edits::edited;
+use crate::gtfs::rows::{Row, row_of};
 use ojp_feed_lines::{MemFile, MemFolder};
 use ojp_gtfs_cli::run;
-use ojp_outside::{FileStore, MemSink, StdSource, Store, read_all};
+use ojp_outside::{FileStore, MemSink, Store};
 use std::alloc::Global;
-use std::process::ExitCode;
 use std::str;
 
 /// The files of the sample.
@@ -26,44 +25,28 @@ const FILES: [&str; 8] = [
     "frequencies.txt",
 ];
 
-/// The most bytes of all rows.
-const MOST: usize = 1 << 20;
-
-fn main(rt: HostRuntime) -> ExitCode {
-    match tell_rows(&rt) {
-        Some(()) => ExitCode::SUCCESS,
-        None => ExitCode::FAILURE,
-    }
-}
-
-/// Tells what becomes of each row of standard input; none where one is no row, or reading, writing or memory fails.
-fn tell_rows(rt: &HostRuntime) -> Option<()> {
-    let alloc = rt.alloc();
-    let mut input = StdSource::new(rt.stdin());
-    let rows = read_all(alloc, &mut input, MOST).ok()?;
-    let rows = str::from_utf8(rows.as_slice()).ok()?;
-    let mut store = FileStore::new(rt.clone().ok()?);
+/// Tells what becomes of each row, which is a line.
+pub fn tell_rows(host: &HostRuntime, rows: &str) -> Option<()> {
+    let alloc = host.alloc();
+    let mut store = FileStore::new(host.clone().ok()?);
     let expected = store.read_file(alloc, "region.tt").ok()?;
     for line in rows.lines() {
         let row = row_of(line)?;
-        tell(rt, alloc, &row, &mut store, expected.as_slice())?;
+        tell(host, alloc, &row, &mut store, expected.as_slice())?;
     }
     Some(())
 }
 
 /// Tells what becomes of the row.
 fn tell<S: Store>(
-    rt: &HostRuntime,
+    host: &HostRuntime,
     alloc: Global,
     row: &Row<'_>,
     store: &mut S,
     expected: &[u8],
 ) -> Option<()> {
     let mut folder = folder_of(alloc, row, store)?;
-    let mut words = Vec::new(alloc);
-    for word in row.words.split(" ") {
-        words.push(String::from_str(alloc, word).ok()?).ok()?;
-    }
+    let words = words_of(alloc, row.words)?;
     let mut output = MemSink::new(alloc, Vec::new(alloc));
     let mut report = MemSink::new(alloc, Vec::new(alloc));
     let status = run(
@@ -78,7 +61,7 @@ fn tell<S: Store>(
     let written = written_as(output.written(), expected);
     let report = str::from_utf8(report.written()).ok()?;
     let name = row.name;
-    println!(rt; "{name}: status {status}, {written}\n{report}").ok()
+    println!(host; "{name}: status {status}, {written}\n{report}").ok()
 }
 
 /// What became of the output.

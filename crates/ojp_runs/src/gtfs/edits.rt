@@ -1,6 +1,6 @@
 //! Edits of files.
 
-use crate::rows::Row;
+use crate::gtfs::rows::Row;
 use std::alloc::Global;
 
 /// The bytes as the row edits them.
