@@ -1,4 +1,4 @@
-"""Writes the rows of crates/ojp_calendar_rows and what is told of them: python3 bench/calendar_rows.py
+"""Writes the section `calendars` of the rows of crates/ojp_rows, and what is told of them: python3 bench/calendar_rows.py
 
 The boxes of the sets of days were found by hand. The zone files are made: two years of the changes that Python's
 zoneinfo has, and the last line of the system's file. What is told of a zone is found by trying, with the noons of
@@ -11,7 +11,7 @@ import pathlib
 import struct
 import zoneinfo
 
-FOLDER = pathlib.Path(__file__).parent.parent / "crates" / "ojp_calendar_rows"
+FOLDER = pathlib.Path(__file__).parent.parent / "crates" / "ojp_rows"
 EPOCH = datetime.date(1970, 1, 1)
 UTC = datetime.timezone.utc
 
@@ -177,6 +177,13 @@ def number(text):
     return (datetime.date.fromisoformat(text) - EPOCH).days
 
 
+def write_section(name, lines):
+    """Puts the lines below the heading of the section, in place of those that stand there."""
+    before, heading, rest = (FOLDER / name).read_bytes().partition(b"#### calendars\n")
+    _, mark, behind = rest.partition(b"#### ")
+    (FOLDER / name).write_bytes(before + heading + "".join(line + "\n" for line in lines).encode() + mark + behind)
+
+
 rows, told = [], []
 for first, marks, labels in BOXES:
     rows.append(f"boxes {first} {marks}")
@@ -186,5 +193,5 @@ for name, first, last in ZONES:
     told.append(f"zone {zone_text(name, number(first), number(last))}")
 rows.append("zone 2026-12-14 2026-12-27 545a6966")
 told.append("zone File")
-(FOLDER / "stdin").write_text("".join(row + "\n" for row in rows))
-(FOLDER / "stdout").write_text("".join(row + "\n" for row in told))
+write_section("stdin", rows)
+write_section("stdout", told)

@@ -185,11 +185,15 @@ def five_regions(folder):
     say("no descriptor is left after 50 more trips", descriptors(gateway) == first)
 
 
+def region_rows(path):
+    return path.read_bytes().partition(b"#### region\n")[2].partition(b"#### ")[0]
+
+
 def rows(folder):
     """The stored rows of a region over sockets: to the region by length and in a chunk, and through a gateway over it."""
     crate = TOP / "crates/ojp_rows"
-    stored = (crate / "stdout").read_bytes().replace(b"\r\n", b"\n")
-    given = [row.partition(b"----\n") for row in (crate / "stdin").read_bytes().split(b"====\n")]
+    stored = region_rows(crate / "stdout").replace(b"\r\n", b"\n")
+    given = [row.partition(b"----\n") for row in region_rows(crate / "stdin").split(b"====\n")]
     given = [(table, body.removesuffix(b"\n")) for table, _, body in given if not body.startswith((b"raw\n", b"fails "))]
     by_region = by_gateway = len(given) > 0
     for lines, document in given:

@@ -1,5 +1,0 @@
-use Rattle.ojp_exchange.specs.Joins.{AreWellLists}
-use Rattle.ojp_board_rows.proofs.regions.lists_of.Given as goal
-
-abbrev pub invariant-tables : goal.invariant-tables
-invariant-tables l = AreWellLists l.lists.items

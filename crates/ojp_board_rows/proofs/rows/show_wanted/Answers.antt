@@ -1,5 +1,0 @@
-use Rattle.std.proofs.Common.{◌<◌, ◌+◌, arith}
-use Rattle.ojp_board_rows.proofs.rows.show_wanted.Goals as goal
-
-pub slot-requires-clause-within : goal.slot-requires-clause-within
-slot-requires-clause-within c = let count = c.slots-number-end.ensures.count c.args.book.now c.requires in omega arith
