@@ -1,2 +1,3 @@
 pub mod BoardFacts
+pub mod CallFacts
 pub mod LinkFacts

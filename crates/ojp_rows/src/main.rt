@@ -5,6 +5,7 @@
 
 mod boards;
 mod calendars;
+mod calls;
 mod feeds;
 mod links;
 mod parts;
