@@ -1,9 +1,8 @@
 -- The text of a plan.
-use Rattle.std.specs.Prelude.{ℕ, ◌+◌, ◌-◌, ◌==◌, Bool, cond, min, List, [], ◌∷◌, ◌++◌, Option, Some, None, codes, map, length, slice_get}
+use Rattle.std.specs.Prelude.{ℕ, ◌+◌, ◌-◌, ◌==◌, cond, min, [], ◌++◌, Option, Some, None, length, slice_get}
 use Rattle.std.specs.List.{flat_map}
-use Rattle.std.specs.Fmt.{decimal}
 use Rattle.ojp_values.specs.Dates.{day_text}
-use Rattle.ojp_values.specs.Texts.{Text, is_exchange}
+use Rattle.ojp_values.specs.Texts.{Text}
 use Rattle.ojp_calendars.specs.Labels.{label_text}
 use Rattle.ojp_calendars.specs.declared.day_box.DayBox.{DayBox}
 use Rattle.ojp_feed_rows.specs.declared.operator.NeighbourOf.{NeighbourOf}
@@ -13,62 +12,27 @@ use Rattle.ojp_feed_trips.specs.declared.weighing.Pattern.{Pattern}
 use Rattle.ojp_feed_plans.specs.declared.plans.Plan.{Plan}
 use Rattle.ojp_feed_plans.specs.declared.plans.PlannedJourney.{PlannedJourney}
 use Rattle.ojp_feed_plans.specs.declared.plans.PlannedPlace.{PlannedPlace}
-use Rattle.ojp_timetable.specs.Fields.{joined}
+use Rattle.ojp_lines.specs.Lines.{call_text, head_text, journey_text, marks_text, neighbour_text, place_text, place_word, service_text}
 use Rattle.ojp_timetable.specs.declared.calls.Call.{Call}
 use Rattle.std.specs.String.{string_bytes}
 
--- a line is its fields with a space between each two, and a line feed, which is 10
-abbrev pub line_text : List Text → Text
-line_text fields = joined fields ++ 10 ∷ []
+-- ---- lines
 
--- the first line
-unfoldable pub title_text : Text
-title_text = line_text (codes "ojp-timetable" ∷ codes "1" ∷ [])
+unfoldable pub text_of_place : PlannedPlace → Text
+text_of_place place = place_text (place_word place.stop) place.stop place.change place.name
 
--- the line of a word and one field
-unfoldable pub pair_text : Text → Text → Text
-pair_text word field = line_text (word ∷ field ∷ [])
-
--- the first three lines
-abbrev pub head_text : Text → Text → Text
-head_text region zone = title_text ++ pair_text (codes "region") region ++ pair_text (codes "zone") zone
-
--- an own stop stands behind `stop` and an exchange point behind `exchange`
-abbrev pub place_word : Text → Text
-place_word stop = cond (is_exchange stop) (codes "exchange") (codes "stop")
-
-unfoldable pub place_text : PlannedPlace → Text
-place_text place = line_text (place_word place.stop ∷ place.stop ∷ decimal place.change ∷ place.name ∷ [])
-
-unfoldable pub neighbour_text : NeighbourOf → Text
-neighbour_text neighbour =
-    line_text (codes "neighbour" ∷ neighbour.point ∷ neighbour.region ∷ decimal neighbour.change ∷ [])
-
--- a weekday is `1` where the service runs and else `0`
-abbrev pub mark_text : Bool → ℕ
-mark_text marked = cond marked 49 48
-
-abbrev pub marks_text : List Bool → Text
-marks_text weekdays = map mark_text weekdays
-
--- the first and the last day, and the weekdays
-unfoldable pub days_text : DayBox → Text
-days_text days = joined (day_text days.first ∷ day_text days.last ∷ marks_text days.weekdays ∷ [])
+unfoldable pub text_of_neighbour : NeighbourOf → Text
+text_of_neighbour neighbour = neighbour_text neighbour.point neighbour.region neighbour.change
 
 -- a service is named by its days
-unfoldable pub service_text : DayBox → Text
-service_text days = line_text (codes "service" ∷ label_text days ∷ days_text days ∷ [])
+unfoldable pub text_of_service : DayBox → Text
+text_of_service days = service_text (label_text days) (day_text days.first) (day_text days.last) (marks_text days.weekdays)
 
-unfoldable pub journey_text : PlannedJourney → Text
-journey_text journey = line_text (codes "journey" ∷ journey.label ∷ label_text journey.days ∷ journey.line ∷ [])
+unfoldable pub text_of_journey : PlannedJourney → Text
+text_of_journey journey = journey_text journey.label (label_text journey.days) journey.line
 
--- a time is spelled by its seconds, and none by `-`
-abbrev pub time_text : Option ℕ → Text
-time_text None = codes "-"
-time_text (Some seconds) = decimal seconds
-
-unfoldable pub call_text : Call → Text
-call_text call = line_text (codes "call" ∷ call.stop ∷ time_text call.arrives ∷ time_text call.departs ∷ [])
+unfoldable pub text_of_call : Call → Text
+text_of_call call = call_text call.stop call.arrives call.departs
 
 -- ---- the calls of a journey
 
@@ -109,7 +73,7 @@ call_at pattern start halt place = record {
 
 abbrev pub call_line : Pattern → ℕ → Halt → Option PlannedPlace → Text
 call_line pattern start halt None = []
-call_line pattern start halt (Some place) = call_text (call_at pattern start halt place)
+call_line pattern start halt (Some place) = text_of_call (call_at pattern start halt place)
 
 unfoldable pub halt_text : Plan → Pattern → ℕ → Halt → Text
 halt_text plan pattern start halt = call_line pattern start halt (place_of plan halt.place)
@@ -120,10 +84,10 @@ calls_text plan (Some pattern) start = flat_map (halt_text plan pattern start) p
 
 -- a journey and its calls
 unfoldable pub journey_lines : Plan → PlannedJourney → Text
-journey_lines plan journey = journey_text journey ++ calls_text plan (slice_get plan.patterns.items journey.pattern) journey.start
+journey_lines plan journey = text_of_journey journey ++ calls_text plan (slice_get plan.patterns.items journey.pattern) journey.start
 
 -- the text of a plan: its head, places, neighbours, services, and journeys with their calls
 unfoldable pub text_of : Settings → Plan → Text
 text_of settings plan =
-    head_text settings.code (string_bytes settings.zone) ++ flat_map place_text plan.places.items ++ flat_map neighbour_text plan.neighbours.items
-    ++ flat_map service_text plan.services.items ++ flat_map (journey_lines plan) plan.journeys.items
+    head_text settings.code (string_bytes settings.zone) ++ flat_map text_of_place plan.places.items ++ flat_map text_of_neighbour plan.neighbours.items
+    ++ flat_map text_of_service plan.services.items ++ flat_map (journey_lines plan) plan.journeys.items

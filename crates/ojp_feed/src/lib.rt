@@ -2,7 +2,6 @@
 #![tactic(auto)]
 
 mod converting;
-mod fields;
 mod lines;
 mod texts;
 

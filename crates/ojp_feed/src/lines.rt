@@ -1,56 +1,24 @@
-//! Lines of a timetable, written behind a text. Behind an error the text is of no use.
+//! Lines of a plan, written behind a text. Behind an error the text is of no use.
 
-ghost use Rattle.std.specs.Prelude.{◌≡◌, ◌++◌, codes, OnOk};
-ghost use Rattle.ojp_feed.specs.Texts.{call_text, days_text, head_text, journey_text, neighbour_text, pair_text, place_text, place_word, service_text, title_text};
+ghost use Rattle.std.specs.Prelude.{◌≡◌, ◌++◌, OnOk};
+ghost use Rattle.ojp_lines.specs.Lines.{place_word};
+ghost use Rattle.ojp_feed.specs.Texts.{text_of_call, text_of_journey, text_of_neighbour, text_of_place, text_of_service};
 
-use crate::fields::{marks, put, put_number, put_time};
 use ojp_calendars::{DayBox, label};
 use ojp_feed_plans::{PlannedJourney, PlannedPlace};
 use ojp_feed_rows::NeighbourOf;
+use ojp_lines::marks;
 use ojp_timetable::Call;
-use ojp_values::{Code, NoMemory};
-
-/// Writes the first three lines.
-pub fn put_head(out: &mut Vec<u8>, region: Code, zone: &[u8]) -> Result<(), NoMemory>
-    ensures { OnOk result (out.new.items ≡ out.old.items ++ head_text region zone.now) }
-{
-    put_title(out)?;
-    put_pair(out, b"region", region.text())?;
-    put_pair(out, b"zone", zone)
-}
-
-// Writes the first line.
-#[tactic(auto, unfolding(crate::specs::Texts::title_text))]
-fn put_title(out: &mut Vec<u8>) -> Result<(), NoMemory>
-    ensures { OnOk result (out.new.items ≡ out.old.items ++ title_text) }
-{
-    put(out, b"ojp-timetable 1\n")
-}
-
-// Writes the line of a word and one field.
-#[tactic(auto, unfolding(crate::specs::Texts::pair_text))]
-fn put_pair(out: &mut Vec<u8>, word: &[u8], field: &[u8]) -> Result<(), NoMemory>
-    ensures { OnOk result (out.new.items ≡ out.old.items ++ pair_text word.now field.now) }
-{
-    put(out, word)?;
-    put(out, b" ")?;
-    put(out, field)?;
-    put(out, b"\n")
-}
+use ojp_values::NoMemory;
 
 /// Writes the line of a place.
-#[tactic(auto, unfolding(crate::specs::Texts::place_text))]
+#[tactic(auto, unfolding(crate::specs::Texts::text_of_place))]
 pub fn put_place(out: &mut Vec<u8>, place: &PlannedPlace) -> Result<(), NoMemory>
-    ensures { OnOk result (out.new.items ≡ out.old.items ++ place_text place.now) }
+    ensures { OnOk result (out.new.items ≡ out.old.items ++ text_of_place place.now) }
 {
-    put(out, place_word(place))?;
-    put(out, b" ")?;
-    put(out, place.stop.text())?;
-    put(out, b" ")?;
-    put_number(out, place.change)?;
-    put(out, b" ")?;
-    put(out, place.name.text())?;
-    put(out, b"\n")
+    let stop = place.stop.text();
+    let change = u64::from(place.change);
+    ojp_lines::put_place(out, place_word(place), stop, change, place.name.text())
 }
 
 // The word of the place.
@@ -65,67 +33,50 @@ fn place_word(place: &PlannedPlace) -> &'static [u8]
 }
 
 /// Writes the line of a neighbour.
-#[tactic(auto, unfolding(crate::specs::Texts::neighbour_text))]
+#[tactic(auto, unfolding(crate::specs::Texts::text_of_neighbour))]
 pub fn put_neighbour(out: &mut Vec<u8>, neighbour: &NeighbourOf) -> Result<(), NoMemory>
-    ensures { OnOk result (out.new.items ≡ out.old.items ++ neighbour_text neighbour.now) }
+    ensures { OnOk result (out.new.items ≡ out.old.items ++ text_of_neighbour neighbour.now) }
 {
-    put(out, b"neighbour ")?;
-    put(out, neighbour.point.text())?;
-    put(out, b" ")?;
-    put(out, neighbour.region.text())?;
-    put(out, b" ")?;
-    put_number(out, neighbour.change)?;
-    put(out, b"\n")
+    let change = u64::from(neighbour.change);
+    ojp_lines::put_neighbour(out, neighbour.point.text(), neighbour.region.text(), change)
 }
 
 /// Writes the line of a service.
-#[tactic(auto, unfolding(crate::specs::Texts::service_text))]
+#[tactic(auto, unfolding(crate::specs::Texts::text_of_service))]
 pub fn put_service(out: &mut Vec<u8>, days: &DayBox) -> Result<(), NoMemory>
-    ensures { OnOk result (out.new.items ≡ out.old.items ++ service_text days.now) }
+    ensures { OnOk result (out.new.items ≡ out.old.items ++ text_of_service days.now) }
 {
-    put(out, b"service ")?;
-    put(out, label(days).text())?;
-    put(out, b" ")?;
-    put_days(out, days)?;
-    put(out, b"\n")
-}
-
-// Writes the first and the last day, and the weekdays.
-#[tactic(auto, unfolding(crate::specs::Texts::days_text))]
-fn put_days(out: &mut Vec<u8>, days: &DayBox) -> Result<(), NoMemory>
-    ensures { OnOk result (out.new.items ≡ out.old.items ++ days_text days.now) }
-{
-    put(out, &days.first.text())?;
-    put(out, b" ")?;
-    put(out, &days.last.text())?;
-    put(out, b" ")?;
-    put(out, &marks(&days.weekdays))
+    let first = days.first.text();
+    let last = days.last.text();
+    ojp_lines::put_service(
+        out,
+        label(days).text(),
+        &first,
+        &last,
+        &marks(&days.weekdays),
+    )
 }
 
 /// Writes the line of a journey.
-#[tactic(auto, unfolding(crate::specs::Texts::journey_text))]
+#[tactic(auto, unfolding(crate::specs::Texts::text_of_journey))]
 pub fn put_journey(out: &mut Vec<u8>, journey: &PlannedJourney) -> Result<(), NoMemory>
-    ensures { OnOk result (out.new.items ≡ out.old.items ++ journey_text journey.now) }
+    ensures { OnOk result (out.new.items ≡ out.old.items ++ text_of_journey journey.now) }
 {
-    put(out, b"journey ")?;
-    put(out, journey.label.text())?;
-    put(out, b" ")?;
-    put(out, label(&journey.days).text())?;
-    put(out, b" ")?;
-    put(out, journey.line.text())?;
-    put(out, b"\n")
+    let service = label(&journey.days);
+    ojp_lines::put_journey(
+        out,
+        journey.label.text(),
+        service.text(),
+        journey.line.text(),
+    )
 }
 
 /// Writes the line of a call.
-#[tactic(auto, unfolding(crate::specs::Texts::call_text))]
+#[tactic(auto, unfolding(crate::specs::Texts::text_of_call))]
 pub fn put_call(out: &mut Vec<u8>, call: &Call) -> Result<(), NoMemory>
-    ensures { OnOk result (out.new.items ≡ out.old.items ++ call_text call.now) }
+    ensures { OnOk result (out.new.items ≡ out.old.items ++ text_of_call call.now) }
 {
-    put(out, b"call ")?;
-    put(out, call.stop.text())?;
-    put(out, b" ")?;
-    put_time(out, call.arrives)?;
-    put(out, b" ")?;
-    put_time(out, call.departs)?;
-    put(out, b"\n")
+    let arrives = call.arrives.map(u64::from);
+    let departs = call.departs.map(u64::from);
+    ojp_lines::put_call(out, call.stop.text(), arrives, departs)
 }

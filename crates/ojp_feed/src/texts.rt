@@ -2,13 +2,14 @@
 
 ghost use Rattle.std.specs.Prelude.{◌≡◌, ◌++◌, IfOk, OnOk, Some, None, cond, option_copied};
 ghost use Rattle.std.specs.List.{flat_map};
-ghost use Rattle.ojp_feed.specs.Texts.{begin_row, call_at, end_row, halt_text, journey_lines, neighbour_text, place_of, place_text, service_text, shifted, text_of};
+ghost use Rattle.ojp_feed.specs.Texts.{begin_row, call_at, end_row, halt_text, journey_lines, place_of, shifted, text_of, text_of_neighbour, text_of_place, text_of_service};
 
-use crate::lines::{put_call, put_head, put_journey, put_neighbour, put_place, put_service};
+use crate::lines::{put_call, put_journey, put_neighbour, put_place, put_service};
 use ojp_calendars::DayBox;
 use ojp_feed_plans::{Plan, PlannedJourney, PlannedPlace};
 use ojp_feed_rows::{NeighbourOf, Settings};
 use ojp_feed_trips::{Halt, Pattern};
+use ojp_lines::put_head;
 use ojp_timetable::Call;
 use ojp_values::NoMemory;
 use std::alloc::Global;
@@ -19,7 +20,7 @@ pub fn text_of(alloc: Global, settings: &Settings, plan: &Plan) -> Result<Vec<u8
     ensures { IfOk result (λ text. text.items ≡ text_of settings.now plan.now) }
 {
     let mut out = Vec::new(alloc);
-    put_head(&mut out, settings.code, settings.zone.as_bytes())?;
+    put_head(&mut out, settings.code.text(), settings.zone.as_bytes())?;
     put_places(&mut out, plan.places.as_slice())?;
     put_neighbours(&mut out, plan.neighbours.as_slice())?;
     put_services(&mut out, plan.services.as_slice())?;
@@ -30,7 +31,7 @@ pub fn text_of(alloc: Global, settings: &Settings, plan: &Plan) -> Result<Vec<u8
 // Writes the lines of the places.
 #[tactic(auto, using(crate::proofs::TextFacts::grows_all))]
 fn put_places(out: &mut Vec<u8>, places: &[PlannedPlace]) -> Result<(), NoMemory>
-    ensures { OnOk result (out.new.items ≡ out.old.items ++ flat_map place_text places.now) }
+    ensures { OnOk result (out.new.items ≡ out.old.items ++ flat_map text_of_place places.now) }
 {
     for place in places {
         put_place(out, place)?;
@@ -41,7 +42,7 @@ fn put_places(out: &mut Vec<u8>, places: &[PlannedPlace]) -> Result<(), NoMemory
 // Writes the lines of the neighbours.
 #[tactic(auto, using(crate::proofs::TextFacts::grows_all))]
 fn put_neighbours(out: &mut Vec<u8>, neighbours: &[NeighbourOf]) -> Result<(), NoMemory>
-    ensures { OnOk result (out.new.items ≡ out.old.items ++ flat_map neighbour_text neighbours.now) }
+    ensures { OnOk result (out.new.items ≡ out.old.items ++ flat_map text_of_neighbour neighbours.now) }
 {
     for neighbour in neighbours {
         put_neighbour(out, neighbour)?;
@@ -52,7 +53,7 @@ fn put_neighbours(out: &mut Vec<u8>, neighbours: &[NeighbourOf]) -> Result<(), N
 // Writes the lines of the services.
 #[tactic(auto, using(crate::proofs::TextFacts::grows_all))]
 fn put_services(out: &mut Vec<u8>, services: &[DayBox]) -> Result<(), NoMemory>
-    ensures { OnOk result (out.new.items ≡ out.old.items ++ flat_map service_text services.now) }
+    ensures { OnOk result (out.new.items ≡ out.old.items ++ flat_map text_of_service services.now) }
 {
     for days in services {
         put_service(out, days)?;

@@ -1,13 +1,12 @@
 -- The values that are drawn for the timetable of a region, and its text.
-use Rattle.std.specs.Prelude.{ℕ, zero, suc, ◌+◌, ◌-◌, ◌*◌, ◌/◌, ◌%◌, ◌==◌, cond, nat_lt, min, max, List, [], ◌∷◌, ◌++◌, Option, Some, None, codes}
+use Rattle.std.specs.Prelude.{ℕ, zero, suc, ◌+◌, ◌-◌, ◌*◌, ◌/◌, ◌%◌, ◌==◌, cond, nat_lt, min, max, List, [], ◌∷◌, ◌++◌, Some, None, codes}
 use Rattle.std.specs.List.{flat_map}
-use Rattle.std.specs.Fmt.{decimal}
 use Rattle.ojp_values.specs.Texts.{Text}
 use Rattle.ojp_values.specs.declared.trips.Neighbour.{Neighbour}
 use Rattle.ojp_values.specs.declared.trips.Point.{Point}
-use Rattle.ojp_timetable.specs.Fields.{joined}
 use Rattle.ojp_timetable.specs.Tables.{Journey, Place}
 use Rattle.ojp_timetable.specs.declared.calls.Call.{Call}
+use Rattle.ojp_lines.specs.Lines.{call_text, head_text, journey_text, neighbour_text, place_text, service_text}
 use Rattle.ojp_network.specs.Draws.{below, draw, state_after}
 
 -- ---- texts: regions, own stops, exchange points and journeys are numbered from 1
@@ -129,47 +128,35 @@ journeys z region = below (journey z region) 120
 
 -- ---- text
 
--- a line is its fields with a space between each two, and a line feed, which is 10
-abbrev pub line_text : List Text → Text
-line_text fields = joined fields ++ 10 ∷ []
+abbrev pub text_of_place : Text → Place → Text
+text_of_place word place = place_text word place.stop place.change place.name
 
-unfoldable pub head_text : ℕ → Text
-head_text region =
-    line_text (codes "ojp-timetable" ∷ codes "1" ∷ []) ++ line_text (codes "region" ∷ region_code region ∷ [])
-    ++ line_text (codes "zone" ∷ codes "+00:00" ∷ [])
-
-unfoldable pub place_text : Text → Place → Text
-place_text word place = line_text (word ∷ place.stop ∷ decimal place.change ∷ place.name ∷ [])
-
-unfoldable pub neighbour_text : Text → Neighbour → Text
-neighbour_text stop neighbour = line_text (codes "neighbour" ∷ stop ∷ neighbour.code ∷ decimal neighbour.change ∷ [])
+abbrev pub text_of_neighbour : Text → Neighbour → Text
+text_of_neighbour stop neighbour = neighbour_text stop neighbour.code neighbour.change
 
 -- an exchange point, followed at once by its neighbour
 abbrev pub point_text : ℕ → ℕ → ℕ → Text
 point_text z region point =
-    place_text (codes "exchange") (shared_place z point) ++ neighbour_text (shared_stop point) (shared_neighbour z region point)
+    text_of_place (codes "exchange") (shared_place z point) ++ text_of_neighbour (shared_stop point) (shared_neighbour z region point)
 
--- the one service, on all days of a year
-unfoldable pub service_text : Text
-service_text = line_text (codes "service" ∷ codes "D" ∷ codes "2024-01-01" ∷ codes "2024-12-31" ∷ codes "1111111" ∷ [])
+-- the label of the one service
+abbrev pub service_label : Text
+service_label = codes "D"
 
--- a time is spelled by its seconds, and none by `-`
-abbrev pub time_text : Option ℕ → Text
-time_text None = codes "-"
-time_text (Some seconds) = decimal seconds
+-- it runs on all days of a year
+abbrev pub text_of_service : Text
+text_of_service = service_text service_label (codes "2024-01-01") (codes "2024-12-31") (codes "1111111")
 
-unfoldable pub call_text : Call → Text
-call_text call = line_text (codes "call" ∷ call.stop ∷ time_text call.arrives ∷ time_text call.departs ∷ [])
+abbrev pub text_of_call : Call → Text
+text_of_call call = call_text call.stop call.arrives call.departs
 
-unfoldable pub journey_head : Text → Text → Text
-journey_head id line = line_text (codes "journey" ∷ id ∷ codes "D" ∷ line ∷ [])
-
-abbrev pub journey_text : Journey → Text
-journey_text journey = journey_head journey.id journey.line ++ flat_map call_text journey.calls
+-- a journey and its calls
+abbrev pub text_of_journey : Journey → Text
+text_of_journey journey = journey_text journey.id service_label journey.line ++ flat_map text_of_call journey.calls
 
 -- the timetable of a region, which takes 1,954 draws
 unfoldable pub file : ℕ → ℕ → Text
 file z region =
-    head_text region ++ flat_map (place_text (codes "stop")) (own_places z region)
+    head_text (region_code region) (codes "+00:00") ++ flat_map (text_of_place (codes "stop")) (own_places z region)
     ++ point_text (state_after z 30) region (lower_point region) ++ point_text (state_after z 32) region (higher_point region)
-    ++ service_text ++ flat_map journey_text (journeys (state_after z 34) region)
+    ++ text_of_service ++ flat_map text_of_journey (journeys (state_after z 34) region)

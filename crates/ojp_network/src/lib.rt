@@ -4,7 +4,6 @@
 mod asks;
 mod draws;
 mod journeys;
-mod lines;
 mod making;
 mod regions;
 mod ring;

@@ -3,19 +3,19 @@
 ghost use Rattle.std.specs.Prelude.{◌≡◌, ◌++◌, ◌≤◌, ◌<◌, codes, OnOk, IfOk};
 ghost use Rattle.std.specs.List.{flat_map};
 ghost use Rattle.ojp_network.specs.Draws.{state_after};
-ghost use Rattle.ojp_network.specs.Regions.{file, own_places, place_text, point_text};
+ghost use Rattle.ojp_network.specs.Regions.{file, own_places, point_text, text_of_place};
 
 use crate::draws::Draws;
 use crate::journeys::put_journeys;
-use crate::lines::{put_head, put_neighbour, put_place, put_service};
 use crate::ring::{higher_point, joined_region, lower_point};
 use crate::texts::{own_name, own_stop, point_name, region_code, shared_stop};
+use ojp_lines::{put_head, put_neighbour, put_place, put_service};
 use ojp_values::{List, NoMemory};
 use std::alloc::Global;
 
 // Writes the own stops.
 fn put_own_places(out: &mut Vec<u8>, draws: &mut Draws, region: u64) -> Result<(), NoMemory>
-    ensures text { OnOk result (out.new.items ≡ out.old.items ++ flat_map (place_text (codes "stop")) (own_places draws.old.state region)) }
+    ensures text { OnOk result (out.new.items ≡ out.old.items ++ flat_map (text_of_place (codes "stop")) (own_places draws.old.state region)) }
     ensures drawn { OnOk result (draws.new.state ≡ state_after draws.old.state 30) }
 {
     for k in 0..30u64 {
@@ -54,11 +54,11 @@ pub fn file(alloc: Global, draws: &mut Draws, region: u64) -> Result<List<u8>, N
     ensures drawn { OnOk result (draws.new.state ≡ state_after draws.old.state 1954) }
 {
     let mut out = Vec::new(alloc);
-    put_head(&mut out, region)?;
+    put_head(&mut out, &region_code(region), b"+00:00")?;
     put_own_places(&mut out, draws, region)?;
     put_point(&mut out, draws, region, lower_point(region))?;
     put_point(&mut out, draws, region, higher_point(region))?;
-    put_service(&mut out)?;
+    put_service(&mut out, b"D", b"2024-01-01", b"2024-12-31", b"1111111")?;
     put_journeys(&mut out, draws, region)?;
     Ok(List::from_items(out))
 }

@@ -1,6 +1,6 @@
 -- The text of a file is that of its lines.
 use Rattle.std.proofs.Common.{◌≡◌, ℕ, false, List, [], ◌∷◌, ◌++◌, map, refl, sym, ◌∙◌, ap, append_assoc, append-nil, Bool, cond}
-use Rattle.std.specs.Prelude.{Option, Some, None, codes}
+use Rattle.std.specs.Prelude.{codes}
 use Rattle.std.specs.List.{concat, flat_map}
 use Rattle.std.specs.Fmt.{decimal}
 use Rattle.std.proofs.lemmas.List.{map-append}
@@ -9,14 +9,15 @@ use Rattle.ojp_values.specs.Dates.{date_in_year, date_of, month_place, year_plac
 use Rattle.ojp_values.specs.Lists.{Each}
 use Rattle.ojp_values.specs.Texts.{Text, is_exchange}
 use Rattle.ojp_zones.specs.declared.zone.Zone.{Zone}
+use Rattle.ojp_lines.specs.Lines.{call_text, head_text, journey_text, neighbour_text, place_text, service_text}
 use Rattle.ojp_timetable.specs.Fields.{joined}
 use Rattle.ojp_timetable.specs.Tables.{Journey, Place}
 use Rattle.ojp_timetable.specs.declared.calls.Call.{Call}
 use Rattle.ojp_timetable.specs.declared.file.lines.Line.{Line}
 use Rattle.ojp_timetable.specs.declared.file.lines.Line.TheVariants as lines
-use Rattle.ojp_texts.specs.Spelled.{journey_lines, label_at, neighbour_lines, place_line, service_line, spelled, time_text as line_time}
+use Rattle.ojp_texts.specs.Spelled.{journey_lines, label_at, neighbour_lines, place_line, service_line, spelled}
 use Rattle.ojp_network.specs.Draws.{state_after}
-use Rattle.ojp_network.specs.Regions.{call_text, file, head_text, higher_point, journey, journey_head, journey_text, journeys, lower_point, neighbour_text, own_places, place_text, point_text, region_code, service_text, shared_neighbour, shared_place, shared_point, shared_stop, time_text}
+use Rattle.ojp_network.specs.Regions.{file, higher_point, journey, journeys, lower_point, own_places, point_text, region_code, service_label, shared_neighbour, shared_place, shared_point, shared_stop, text_of_call, text_of_journey, text_of_neighbour, text_of_place, text_of_service}
 use Rattle.ojp_network_laws.specs.Laws.{daily}
 use Rattle.ojp_network_laws.proofs.Own.{each_below}
 use Rattle.ojp_network_laws.proofs.PlaceRows.{first_places, higher_one, higher_place, lower_one, lower_place, place_rows}
@@ -42,48 +43,41 @@ all_lines is z region = lines.Header ∷ lines.Region (region_code region) ∷ l
 
 -- ---- their texts
 
-stops_text : (ps : List Place) → Each (λ (p : Place). is_exchange p.stop ≡ false) ps → flat_map (place_text (codes "stop")) ps ≡ text_of (map place_line ps)
+stops_text : (ps : List Place) → Each (λ (p : Place). is_exchange p.stop ≡ false) ps → flat_map (text_of_place (codes "stop")) ps ≡ text_of (map place_line ps)
 unfolding place_text
 stops_text [] h = refl
 stops_text (p ∷ ps) h =
-    ap (λ (b : Bool). (joined (cond b (codes "exchange") (codes "stop") ∷ p.stop ∷ decimal p.change ∷ p.name ∷ []) ++ 10 ∷ []) ++ flat_map (place_text (codes "stop")) ps) (sym h.0)
+    ap (λ (b : Bool). (joined (cond b (codes "exchange") (codes "stop") ∷ p.stop ∷ decimal p.change ∷ p.name ∷ []) ++ 10 ∷ []) ++ flat_map (text_of_place (codes "stop")) ps) (sym h.0)
     ∙ ap (λ (t : Text). spelled zone (place_line p) ++ t) (stops_text ps h.1)
 
-shared_text : (z point : ℕ) → place_text (codes "exchange") (shared_place z point) ≡ spelled zone (place_line (shared_place z point))
+shared_text : (z point : ℕ) → text_of_place (codes "exchange") (shared_place z point) ≡ spelled zone (place_line (shared_place z point))
 unfolding place_text
 shared_text z point = refl
 
-neighbours_text : (z region point : ℕ) → neighbour_text (shared_stop point) (shared_neighbour z region point) ++ [] ≡ text_of (flat_map neighbour_lines (shared_point z region point ∷ []))
+neighbours_text : (z region point : ℕ) → text_of_neighbour (shared_stop point) (shared_neighbour z region point) ++ [] ≡ text_of (flat_map neighbour_lines (shared_point z region point ∷ []))
 unfolding neighbour_text
 neighbours_text z region point = refl
 
-daily_text : service_text ≡ spelled zone (service_line daily)
+daily_text : text_of_service ≡ spelled zone (service_line daily)
 unfolding service_text date_of date_in_year month_place year_place
 daily_text = refl
 
-time_is : (time : Option ℕ) → time_text time ≡ line_time time
-time_is None = refl
-time_is (Some seconds) = refl
-
-calls_text : (cs : List Call) → flat_map call_text cs ≡ text_of (map (λ (c : Call). lines.Call c) cs)
+calls_text : (cs : List Call) → flat_map text_of_call cs ≡ text_of (map (λ (c : Call). lines.Call c) cs)
 unfolding call_text
 calls_text [] = refl
-calls_text (c ∷ cs) =
-    ap (λ (t : Text). (joined (codes "call" ∷ c.stop ∷ t ∷ time_text c.departs ∷ []) ++ 10 ∷ []) ++ flat_map call_text cs) (time_is c.arrives)
-    ∙ (ap (λ (t : Text). (joined (codes "call" ∷ c.stop ∷ line_time c.arrives ∷ t ∷ []) ++ 10 ∷ []) ++ flat_map call_text cs) (time_is c.departs)
-    ∙ ap (λ (t : Text). spelled zone (lines.Call c) ++ t) (calls_text cs))
+calls_text (c ∷ cs) = ap (λ (t : Text). spelled zone (lines.Call c) ++ t) (calls_text cs)
 
-head_is : (id line : Text) → journey_head id line ≡ spelled zone (lines.Journey id (codes "D") line)
-unfolding journey_head
+head_is : (id line : Text) → journey_text id service_label line ≡ spelled zone (lines.Journey id (codes "D") line)
+unfolding journey_text
 head_is id line = refl
 
-journeys_text : (js : List Journey) → Each (λ (j : Journey). j.service ≡ 0) js → flat_map journey_text js ≡ text_of (flat_map (journey_lines (daily ∷ [])) js)
+journeys_text : (js : List Journey) → Each (λ (j : Journey). j.service ≡ 0) js → flat_map text_of_journey js ≡ text_of (flat_map (journey_lines (daily ∷ [])) js)
 journeys_text [] h = refl
 journeys_text (j ∷ js) h =
-    append_assoc (journey_head j.id j.line) (flat_map call_text j.calls) (flat_map journey_text js)
-    ∙ (ap (λ (t : Text). t ++ (flat_map call_text j.calls ++ flat_map journey_text js)) (head_is j.id j.line ∙ ap (λ (n : ℕ). spelled zone (lines.Journey j.id (label_at (daily ∷ []) n) j.line)) (sym h.0))
+    append_assoc (journey_text j.id service_label j.line) (flat_map text_of_call j.calls) (flat_map text_of_journey js)
+    ∙ (ap (λ (t : Text). t ++ (flat_map text_of_call j.calls ++ flat_map text_of_journey js)) (head_is j.id j.line ∙ ap (λ (n : ℕ). spelled zone (lines.Journey j.id (label_at (daily ∷ []) n) j.line)) (sym h.0))
     ∙ ap (λ (t : Text). spelled zone (lines.Journey j.id (label_at (daily ∷ []) j.service) j.line) ++ t)
-    (ap (λ (t : Text). t ++ flat_map journey_text js) (calls_text j.calls)
+    (ap (λ (t : Text). t ++ flat_map text_of_journey js) (calls_text j.calls)
     ∙ (ap (λ (t : Text). text_of (map (λ (c : Call). lines.Call c) j.calls) ++ t) (journeys_text js h.1)
     ∙ sym (text_append (map (λ (c : Call). lines.Call c) j.calls) (flat_map (journey_lines (daily ∷ [])) js)))))
 
@@ -120,8 +114,8 @@ parts_text z region =
     (ap text_of (map-append place_line (own_places z region) (lower_place z region ∷ [])) ∙ text_append (map place_line (own_places z region)) (place_line (lower_place z region) ∷ []))))))
 
 entries_text : (z region : ℕ)
-    → flat_map (place_text (codes "stop")) (own_places z region) ++ point_text (state_after z 30) region (lower_point region) ++ point_text (state_after z 32) region (higher_point region) ++ service_text
-    ++ flat_map journey_text (journeys (state_after z 34) region)
+    → flat_map (text_of_place (codes "stop")) (own_places z region) ++ point_text (state_after z 30) region (lower_point region) ++ point_text (state_after z 32) region (higher_point region) ++ text_of_service
+    ++ flat_map text_of_journey (journeys (state_after z 34) region)
     ≡ text_of (entries z region)
 entries_text z region =
     pieces _ _ _ _ _ _ _ _ _ _ _ _ _ _ (stops_text (own_places z region) (own_unshared z region)) (shared_text (state_after z 30) (lower_point region))

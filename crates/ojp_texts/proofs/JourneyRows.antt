@@ -22,7 +22,8 @@ use Rattle.ojp_timetable.specs.declared.file.lines.Line.TheVariants as lines
 use Rattle.ojp_timetable.specs.declared.file.lines.Open.{Open}
 use Rattle.ojp_timetable.specs.declared.file.lines.Open.TheVariants.{Nothing, Begun, Since}
 use Rattle.ojp_timetable.proofs.TextFacts.{is_differ, is_same, same_itself}
-use Rattle.ojp_texts.specs.Spelled.{HaveOwn, journey_lines, label_at, time_text}
+use Rattle.ojp_lines.specs.Lines.{time_text}
+use Rattle.ojp_texts.specs.Spelled.{HaveOwn, journey_lines, label_at}
 use Rattle.ojp_texts.proofs.PlaceRows.{declares}
 use Rattle.ojp_texts.proofs.Reading.{call_reads, journey_reads}
 use Rattle.ojp_texts.proofs.Spelling.{joined_line}

@@ -30,7 +30,8 @@ use Rattle.ojp_timetable.specs.declared.file.words.Word.{Word}
 use Rattle.ojp_timetable.specs.declared.file.words.Word.TheVariants as words
 use Rattle.ojp_timetable.proofs.DayFacts.{days_are_spelled}
 use Rattle.ojp_timetable.proofs.TextFacts.{same_is}
-use Rattle.ojp_texts.specs.Spelled.{LinesAreSpelled, fields_spelled, marks_text, place_word, time_text}
+use Rattle.ojp_lines.specs.Lines.{marks_text, place_word, time_text}
+use Rattle.ojp_texts.specs.Spelled.{LinesAreSpelled, fields_spelled}
 use Rattle.ojp_texts.proofs.Spelling.{joined_back}
 use Rattle.ojp_texts.proofs.Told.{SaidHolds, Told, line_holds}
 

@@ -29,7 +29,8 @@ use Rattle.ojp_timetable.proofs.ListFacts.{place_is}
 use Rattle.ojp_timetable.proofs.Orders.{not_before_itself}
 use Rattle.ojp_timetable.proofs.PointOrder.{lt_carried}
 use Rattle.ojp_timetable.proofs.TextFacts.{is_differ, is_same}
-use Rattle.ojp_texts.specs.Spelled.{HaveOwn, IsNamed, marks_text, neighbour_lines, place_line, place_word, service_line}
+use Rattle.ojp_lines.specs.Lines.{marks_text, place_word}
+use Rattle.ojp_texts.specs.Spelled.{HaveOwn, IsNamed, neighbour_lines, place_line, service_line}
 use Rattle.ojp_texts.proofs.PointsGrow.{bare, length-one_more, one_more, points_after, shared_in}
 use Rattle.ojp_texts.proofs.Reading.{neighbour_reads, place_reads, service_reads}
 use Rattle.ojp_texts.proofs.Spelling.{joined_line}

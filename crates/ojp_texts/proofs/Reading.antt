@@ -28,7 +28,8 @@ use Rattle.ojp_timetable.specs.declared.file.words.Word.{Word}
 use Rattle.ojp_timetable.specs.declared.file.words.Word.TheVariants as words
 use Rattle.ojp_timetable.proofs.DayFacts.{days_are_spelled, one_reading}
 use Rattle.ojp_timetable.proofs.TextFacts.{is_differ}
-use Rattle.ojp_texts.specs.Spelled.{fields_spelled, marks_text, place_word, spelled, time_text}
+use Rattle.ojp_lines.specs.Lines.{marks_text, place_word, time_text}
+use Rattle.ojp_texts.specs.Spelled.{fields_spelled, spelled}
 use Rattle.ojp_texts.proofs.Spelling.{body_is, fields_back, fields_front, joined_back}
 use Rattle.ojp_texts.proofs.Words.{IsWord, code_word, day_word, decimal_word, label_word, marks_word, stop_word}
 

@@ -11,7 +11,8 @@ use Rattle.ojp_values.specs.Texts.{Text, is_code, is_code_byte, is_label, is_loc
 use Rattle.ojp_values.proofs.Escapes.{and_true_left, and_true_right}
 use Rattle.ojp_values.proofs.StopParts.{stops_have_parts}
 use Rattle.ojp_values.proofs.Numerals.{plain_of}
-use Rattle.ojp_texts.specs.Spelled.{is_word, is_word_byte, marks_text}
+use Rattle.ojp_lines.specs.Lines.{marks_text}
+use Rattle.ojp_texts.specs.Spelled.{is_word, is_word_byte}
 
 -- every byte passes where a weaker test is asked
 pub all_weaker : (p q : ℕ → Bool) → ((b : ℕ) → p b ≡ true → q b ≡ true) → (text : Text) → list_all p text ≡ true → list_all q text ≡ true

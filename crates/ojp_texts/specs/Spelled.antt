@@ -1,7 +1,6 @@
 -- A timetable as the lines that spell it.
-use Rattle.std.specs.Prelude.{◌≡◌, ◌≢◌, ◌⊎◌, ◌≤◌, ℕ, Bool, true, List, [], ◌∷◌, ◌++◌, Option, Some, None, IsTrue, codes, cond, length, map, not, slice_index_or, ◌&&◌, ◌==◌}
+use Rattle.std.specs.Prelude.{◌≡◌, ◌≢◌, ◌⊎◌, ◌≤◌, ℕ, Bool, true, List, [], ◌∷◌, ◌++◌, Some, IsTrue, length, map, not, slice_index_or, ◌&&◌, ◌==◌}
 use Rattle.std.specs.List.{concat, flat_map, list_all}
-use Rattle.std.specs.Fmt.{decimal}
 use Rattle.ojp_values.specs.Dates.{day_text}
 use Rattle.ojp_values.specs.Lists.{Each, Pairwise}
 use Rattle.ojp_values.specs.Texts.{Text, code_part, is_code, is_exchange, is_label, is_name, is_stop_ref}
@@ -10,6 +9,7 @@ use Rattle.ojp_values.specs.declared.trips.Point.{Point}
 use Rattle.ojp_zones.specs.Noons.{AreNoons}
 use Rattle.ojp_zones.specs.Zones.{zone_of}
 use Rattle.ojp_zones.specs.declared.zone.Zone.{Zone}
+use Rattle.ojp_lines.specs.Lines.{call_fields, journey_fields, line_text, marks_text, neighbour_fields, place_fields, place_word, region_fields, service_fields, title_fields, zone_fields}
 use Rattle.ojp_timetable.specs.Fields.{body, joined}
 use Rattle.ojp_timetable.specs.Runs.{IsWell}
 use Rattle.ojp_timetable.specs.SaidLines.{say}
@@ -23,33 +23,19 @@ use Rattle.ojp_timetable.specs.declared.file.lines.Line.TheVariants as lines
 
 -- ---- how a line is spelled
 
--- an own stop stands behind `stop` and an exchange point behind `exchange`
-abbrev pub place_word : Text → Text
-place_word stop = cond (is_exchange stop) (codes "exchange") (codes "stop")
-
--- a weekday is `1` where the service runs and else `0`
-abbrev pub marks_text : List Bool → Text
-marks_text marks = map (λ (runs : Bool). cond runs 49 48) marks
-
--- a time is spelled by its seconds, and none by `-`
-abbrev pub time_text : Option ℕ → Text
-time_text None = codes "-"
-time_text (Some seconds) = decimal seconds
-
 -- the fields of a line, where the zone is spelled so
 abbrev pub fields_spelled : Text → Line → List Text
-fields_spelled zone lines.Header = codes "ojp-timetable" ∷ codes "1" ∷ []
-fields_spelled zone (lines.Region code) = codes "region" ∷ code ∷ []
-fields_spelled zone (lines.Zone is) = codes "zone" ∷ zone ∷ []
-fields_spelled zone (lines.Place stop change name) = place_word stop ∷ stop ∷ decimal change ∷ name ∷ []
-fields_spelled zone (lines.Neighbour stop neighbour) = codes "neighbour" ∷ stop ∷ neighbour.code ∷ decimal neighbour.change ∷ []
-fields_spelled zone (lines.Service id dates) = codes "service" ∷ id ∷ day_text dates.first ∷ day_text dates.last ∷ marks_text dates.marks ∷ []
-fields_spelled zone (lines.Journey id service line) = codes "journey" ∷ id ∷ service ∷ line ∷ []
-fields_spelled zone (lines.Call call) = codes "call" ∷ call.stop ∷ time_text call.arrives ∷ time_text call.departs ∷ []
+fields_spelled zone lines.Header = title_fields
+fields_spelled zone (lines.Region code) = region_fields code
+fields_spelled zone (lines.Zone is) = zone_fields zone
+fields_spelled zone (lines.Place stop change name) = place_fields (place_word stop) stop change name
+fields_spelled zone (lines.Neighbour stop neighbour) = neighbour_fields stop neighbour.code neighbour.change
+fields_spelled zone (lines.Service id dates) = service_fields id (day_text dates.first) (day_text dates.last) (marks_text dates.marks)
+fields_spelled zone (lines.Journey id service line) = journey_fields id service line
+fields_spelled zone (lines.Call call) = call_fields call.stop call.arrives call.departs
 
--- a line is its fields with a space between each two, and a line feed, which is 10
 abbrev pub spelled : Text → Line → Text
-spelled zone line = joined (fields_spelled zone line) ++ 10 ∷ []
+spelled zone line = line_text (fields_spelled zone line)
 
 -- ---- what the lines of a timetable say
 

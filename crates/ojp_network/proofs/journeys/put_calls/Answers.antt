@@ -3,7 +3,7 @@ use Rattle.std.specs.List.{flat_map}
 use Rattle.std.proofs.lemmas.List.Concat.{flat_map-append}
 use Rattle.ojp_values.specs.Texts.{Text}
 use Rattle.ojp_network.specs.Draws.{below, draw, state_after}
-use Rattle.ojp_network.specs.Regions.{call_text, departs_at, first_call, last_call, middle_call, minutes, stop_at}
+use Rattle.ojp_network.specs.Regions.{departs_at, first_call, last_call, middle_call, minutes, stop_at, text_of_call}
 use Rattle.ojp_network.proofs.DrawFacts.{drawn_at, flat_none, grows_flat, state_first, state_next}
 use Rattle.ojp_network.proofs.PlaceFacts.{call_text_is}
 use Rattle.ojp_network.proofs.ResultFacts.{always}
@@ -35,9 +35,9 @@ loop-k-init c =
     let time = departs_first z c.below.result (c.below.ensures.value ∙ drawn_at z 0 z 1200 (state_first z)) in
     let is = call_text_is _ _ None None _ _ (stop_is region c.below-stop.result (draw z 1 32) (c.below-stop.ensures.value ∙ drawn_at z 1 c.below.new.self.state 32 behind_one)) refl (ap Some time) in
     record {
-      text = c.in_ok-put_call.ensures
+      text = c.in_ok-put_call_at.ensures
           ∙ (ap (λ (t : List ℕ). c.args.out.now.items ++ t) is
-          ∙ sym (ap (λ (t : List ℕ). (c.args.out.now.items ++ call_text (first_call z region)) ++ t) (flat_none call_text (middle_call z region)) ∙ append-nil (c.args.out.now.items ++ call_text (first_call z region))));
+          ∙ sym (ap (λ (t : List ℕ). (c.args.out.now.items ++ text_of_call (first_call z region)) ++ t) (flat_none text_of_call (middle_call z region)) ∙ append-nil (c.args.out.now.items ++ text_of_call (first_call z region))));
       time = time;
       small = omega (arith, c.below.ensures.small);
       state = state_next z 1 2 c.below.new.self.state c.below-stop.new.self.state behind_one c.below-stop.ensures.next refl;
@@ -58,7 +58,7 @@ loop-k-preserved c =
     let leaves = departs_next z k c.loop-k.departs c.below-in-loop-k.result c.below-in-loop-k-2.result c.loop-k.invariant.time hop dwell in
     let is = call_text_is _ _ _ _ _ _ (stop_is region c.below-stop-in-loop-k.result (draw z (3 * k + 3) 32) at) (ap Some comes) (ap Some leaves) in
     record {
-      text = grows_flat call_text (middle_call z region) k (c.args.out.now.items ++ call_text (first_call z region)) c.loop-k.out.items c.put_call-in-loop-k.new.out.items _ c.loop-k.invariant.text c.in_ok-put_call-2.ensures is;
+      text = grows_flat text_of_call (middle_call z region) k (c.args.out.now.items ++ text_of_call (first_call z region)) c.loop-k.out.items c.put_call_at-in-loop-k.new.out.items _ c.loop-k.invariant.text c.in_ok-put_call_at-2.ensures is;
       time = leaves;
       small = omega (arith, c.loop-k.invariant.small, c.below-in-loop-k.ensures.small, c.below-in-loop-k-2.ensures.small);
       state = state_next z (3 * k + 4) (3 * (k + 1) + 2) c.below-stop-in-loop-k.new.self.state c.below-in-loop-k-2.new.self.state s4 c.below-in-loop-k-2.ensures.next (omega arith);
@@ -77,12 +77,12 @@ ended old out first piece {X} g xs x before is =
     ∙ (append_assoc old first (flat_map g xs ++ g x)
     ∙ ap (λ (t : List ℕ). old ++ (first ++ t)) (ap (λ (t : List ℕ). flat_map g xs ++ t) (sym (append-nil (g x))) ∙ sym (flat_map-append g xs (x ∷ []))))))
 
-last_state : (c : goal.After-put_call-2) → c.loop-k.draws.state ≡ state_after c.args.draws.now.state 14
+last_state : (c : goal.After-put_call_at-2) → c.loop-k.draws.state ≡ state_after c.args.draws.now.state 14
 last_state c =
     let k4 = four c.loop-k._k c.loop-k.auto._k-end c.loop-k-test.false in
     c.loop-k.invariant.state ∙ ap (λ (k : ℕ). state_after c.args.draws.now.state (3 * k + 2)) k4
 
-behind_hop : (c : goal.After-put_call-2) → c.below-2.new.self.state ≡ state_after c.args.draws.now.state 15
+behind_hop : (c : goal.After-put_call_at-2) → c.below-2.new.self.state ≡ state_after c.args.draws.now.state 15
 behind_hop c = state_next c.args.draws.now.state 14 15 c.loop-k.draws.state c.below-2.new.self.state (last_state c) c.below-2.ensures.next refl
 
 pub returns-clause-text : goal.returns-clause-text
@@ -95,13 +95,13 @@ returns-clause-text c =
     let comes : c.loop-k.departs + 60 * (1 + c.below-2.result) ≡ departs_at z 4 + minutes z 14 20 = cc (c.loop-k.invariant.time, ap (departs_at z) k4, minutes_of z 14 c.below-2.result 20 hop) in
     let is = call_text_is _ _ _ _ None None (stop_is region c.below-stop-2.result (draw z 15 32) at) (ap Some comes) refl in
     let before = c.loop-k.invariant.text
-    ∙ ap (λ (k : ℕ). (c.args.out.now.items ++ call_text (first_call z region)) ++ flat_map call_text (below (middle_call z region) k)) k4 in
-    subst (λ (t : Text). OnOk c.put_call-2.result (c.put_call-2.new.out.items ≡ t))
-    (ended c.args.out.now.items c.loop-k.out.items (call_text (first_call z region)) _ call_text (below (middle_call z region) 4) (last_call z region) before is)
-    c.put_call-2.ensures
+    ∙ ap (λ (k : ℕ). (c.args.out.now.items ++ text_of_call (first_call z region)) ++ flat_map text_of_call (below (middle_call z region) k)) k4 in
+    subst (λ (t : Text). OnOk c.put_call_at-2.result (c.put_call_at-2.new.out.items ≡ t))
+    (ended c.args.out.now.items c.loop-k.out.items (text_of_call (first_call z region)) _ text_of_call (below (middle_call z region) 4) (last_call z region) before is)
+    c.put_call_at-2.ensures
 
 pub returns-clause-drawn : goal.returns-clause-drawn
 returns-clause-drawn c =
     let z = c.args.draws.now.state in
-    always c.put_call-2.result (c.below-stop-2.new.self.state ≡ state_after z 16)
+    always c.put_call_at-2.result (c.below-stop-2.new.self.state ≡ state_after z 16)
     (state_next z 15 16 c.below-2.new.self.state c.below-stop-2.new.self.state (behind_hop c) c.below-stop-2.ensures.next refl)
