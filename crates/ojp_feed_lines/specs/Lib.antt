@@ -1,1 +1,5 @@
 pub mod Fields
+pub mod Folders
+pub mod Lines
+pub mod MemFolders
+pub mod Refusals

@@ -1,5 +1,8 @@
 //! The files that are read.
 
+ghost use Rattle.std.specs.Prelude.{◌≡◌};
+ghost use Rattle.ojp_feed_lines.specs.Refusals.{name_of};
+
 /// A file of a feed, or the operator's.
 #[derive(Clone, Copy, Debug, PartialEq, Eq)]
 pub enum FeedFile {
@@ -18,7 +21,9 @@ pub enum FeedFile {
 
 impl FeedFile {
     /// The name in the folder; that of the operator's file is given by its caller.
-    pub fn name(self) -> &'static str {
+    pub fn name(self) -> &'static str
+        ensures { result.now ≡ name_of self }
+    {
         match self {
             FeedFile::Agency => "agency.txt",
             FeedFile::Stops => "stops.txt",

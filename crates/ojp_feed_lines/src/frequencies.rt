@@ -1,24 +1,27 @@
 //! `frequencies.txt`.
 
+ghost use Rattle.std.specs.Prelude.{◌≡◌, ◌≤◌, IfErr, IsTrue};
+ghost use Rattle.ojp_outside.specs.Causes.{Rose};
+ghost use Rattle.ojp_feed_lines.specs.Refusals.{Explains, IsRowRefusal, is_unread};
+
 use crate::columns::Column;
 use crate::fields::{read_count, read_flag, read_time};
 use crate::files::FeedFile;
-use crate::folder::Folder;
+use crate::folder::{Folder, OpenedFile};
 use crate::ids::put;
 use crate::refusals::FeedRefused;
-use crate::rows::{Rows, take_rows};
-use crate::table::{Table, open};
+use crate::rows::{Rows, take_file};
+use crate::table::Table;
 use crate::trips::Trips;
 use ojp_feed_rows::{Frequency, Trip};
 use std::alloc::Global;
-use std::io::Read;
 
 /// The longest time between two departures, in seconds.
 const LONGEST_HEADWAY: u32 = 3_600_000;
 
 /// The places of the columns of `frequencies.txt`.
 #[derive(Clone, Copy)]
-struct FrequencyColumns {
+pub(crate) struct FrequencyColumns {
     trip: usize,
     start: usize,
     end: usize,
@@ -29,7 +32,6 @@ struct FrequencyColumns {
 /// The trips with the rows so far.
 #[derive(Drop)]
 struct FrequencyRows {
-    columns: FrequencyColumns,
     trips: Trips,
 }
 
@@ -38,41 +40,40 @@ pub(crate) fn read_frequencies<D: Folder>(
     alloc: Global,
     folder: &mut D,
     trips: Trips,
-) -> Result<Trips, FeedRefused> {
-    match open(alloc, folder, FeedFile::Frequencies)? {
-        Some(table) => with_frequencies(alloc, table, trips),
-        None => Ok(trips),
-    }
-}
-
-fn with_frequencies<F: Read + Drop>(
-    alloc: Global,
-    rows: Table<F>,
-    trips: Trips,
-) -> Result<Trips, FeedRefused> {
-    let mut table = rows;
-    let mut rows = FrequencyRows {
-        columns: frequency_columns(&table)?,
-        trips,
-    };
-    take_rows(alloc, &mut table, &mut rows)?;
+) -> Result<Trips, FeedRefused>
+    ensures kept { (D.seen folder.new).contents ≡ (D.seen folder.old).contents }
+    ensures later { (D.seen folder.old).faults ≤ (D.seen folder.new).faults }
+    ensures unread { IfErr result (λ e. IsTrue (is_unread e) → Rose (D.seen folder.old).faults (D.seen folder.new).faults) }
+    ensures refused { IfErr result (λ e. Explains (D.seen folder.old).contents e) }
+{
+    let mut rows = FrequencyRows { trips };
+    take_file(alloc, folder, FeedFile::Frequencies, &mut rows)?;
     Ok(rows.trips)
 }
 
-fn frequency_columns<F: Read + Drop>(table: &Table<F>) -> Result<FrequencyColumns, FeedRefused> {
-    Ok(FrequencyColumns {
-        trip: table.needed(Column::TripId)?,
-        start: table.needed(Column::StartTime)?,
-        end: table.needed(Column::EndTime)?,
-        headway: table.needed(Column::HeadwaySecs)?,
-        exact: table.place(Column::ExactTimes),
-    })
-}
-
 impl Rows for FrequencyRows {
-    fn take_row<F: Read + Drop>(&mut self, _: Global, table: &Table<F>) -> Result<(), FeedRefused> {
-        let frequency = frequency_of(table, self.columns)?;
-        match self.trips.ids.number(table.field(self.columns.trip)) {
+    type Columns = FrequencyColumns;
+
+    const NEEDED: Column = Column::TripId;
+
+    fn columns<F: OpenedFile>(table: &Table<F>) -> Result<FrequencyColumns, FeedRefused> {
+        Ok(FrequencyColumns {
+            trip: table.needed(Column::TripId)?,
+            start: table.needed(Column::StartTime)?,
+            end: table.needed(Column::EndTime)?,
+            headway: table.needed(Column::HeadwaySecs)?,
+            exact: table.place(Column::ExactTimes),
+        })
+    }
+
+    fn take_row<F: OpenedFile>(
+        &mut self,
+        _: Global,
+        table: &Table<F>,
+        columns: FrequencyColumns,
+    ) -> Result<(), FeedRefused> {
+        let frequency = frequency_of(table, columns)?;
+        match self.trips.ids.number(table.field(columns.trip)) {
             Some(trip) => add_frequency(&mut self.trips.trips, trip, frequency),
             None => {
                 self.trips.stray_frequencies = self.trips.stray_frequencies.saturating_add(1);
@@ -83,21 +84,21 @@ impl Rows for FrequencyRows {
 }
 
 /// Puts the row to the trip of that number.
-fn add_frequency(
-    trips: &mut Vec<Trip>,
-    trip: u32,
-    frequency: Frequency,
-) -> Result<(), FeedRefused> {
+fn add_frequency(trips: &mut Vec<Trip>, trip: u32, frequency: Frequency) -> Result<(), FeedRefused>
+    ensures { IfErr result (λ e. e ≡ FeedRefused.NoMemory) }
+{
     match trips.get_mut(trip as usize) {
         Some(trip) => put(&mut trip.frequencies, frequency),
         None => Ok(()),
     }
 }
 
-fn frequency_of<F: Read + Drop>(
+fn frequency_of<F: OpenedFile>(
     table: &Table<F>,
     columns: FrequencyColumns,
-) -> Result<Frequency, FeedRefused> {
+) -> Result<Frequency, FeedRefused>
+    ensures { IfErr result (λ e. IsRowRefusal table.now.file e) }
+{
     let start = table.value(
         read_time(table.field(columns.start).as_bytes()),
         Column::StartTime,

@@ -1,12 +1,14 @@
 //! Ids by number.
 
+ghost use Rattle.std.specs.Prelude.{◌≡◌, IfErr};
+ghost use Rattle.ojp_feed_lines.specs.Refusals.{IsRowRefusal};
+
 use crate::columns::Column;
-use crate::files::FeedFile;
+use crate::folder::OpenedFile;
 use crate::refusals::{FeedRefused, RowReason};
 use crate::table::Table;
 use indexmap::IndexSet;
 use std::alloc::Global;
-use std::io::Read;
 
 /// The most ids of a file.
 const MOST_IDS: usize = 100_000_000;
@@ -33,7 +35,9 @@ impl Ids {
     }
 
     /// Adds an id, and tells whether it was new.
-    pub fn add(&mut self, alloc: Global, id: &str) -> Result<bool, FeedRefused> {
+    pub fn add(&mut self, alloc: Global, id: &str) -> Result<bool, FeedRefused>
+        ensures { IfErr result (λ e. e ≡ FeedRefused.NoMemory) }
+    {
         let Ok(owned) = String::from_str(alloc, id) else {
             return Err(FeedRefused::NoMemory);
         };
@@ -49,13 +53,15 @@ impl Ids {
     }
 
     /// Adds the id of a row, which must be new.
-    pub fn add_row<F: Read + Drop>(
+    pub fn add_row<F: OpenedFile>(
         &mut self,
         alloc: Global,
         table: &Table<F>,
         place: usize,
         column: Column,
-    ) -> Result<(), FeedRefused> {
+    ) -> Result<(), FeedRefused>
+        ensures { IfErr result (λ e. IsRowRefusal table.now.file e) }
+    {
         if self.is_full() {
             return Err(table.refused(RowReason::Limit));
         }
@@ -72,7 +78,9 @@ impl Ids {
 }
 
 /// A text of its own.
-pub(crate) fn owned(alloc: Global, text: &str) -> Result<String, FeedRefused> {
+pub(crate) fn owned(alloc: Global, text: &str) -> Result<String, FeedRefused>
+    ensures { IfErr result (λ e. e ≡ FeedRefused.NoMemory) }
+{
     match String::from_str(alloc, text) {
         Ok(owned) => Ok(owned),
         Err(_) => Err(FeedRefused::NoMemory),
@@ -80,7 +88,9 @@ pub(crate) fn owned(alloc: Global, text: &str) -> Result<String, FeedRefused> {
 }
 
 /// Puts a row behind the others.
-pub(crate) fn put<T: Drop>(rows: &mut Vec<T>, row: T) -> Result<(), FeedRefused> {
+pub(crate) fn put<T: Drop>(rows: &mut Vec<T>, row: T) -> Result<(), FeedRefused>
+    ensures { IfErr result (λ e. e ≡ FeedRefused.NoMemory) }
+{
     match rows.push(row) {
         Ok(()) => Ok(()),
         Err(_) => Err(FeedRefused::NoMemory),

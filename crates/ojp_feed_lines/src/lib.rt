@@ -3,6 +3,7 @@
 
 mod agency;
 mod columns;
+mod counted_file;
 pub mod fields;
 mod files;
 mod folder;
@@ -23,10 +24,11 @@ mod transfers;
 mod trips;
 
 pub use columns::Column;
+pub use counted_file::CountedFile;
 pub use files::FeedFile;
-pub use folder::{Folder, OpenRefused};
+pub use folder::{Folder, MOST_BYTES, OpenRefused, OpenedFile};
 pub use mem_folder::{MemFile, MemFolder, MemReader};
 pub use reading::{Asked, read_feed};
 pub use refusals::{FeedRefused, RowReason};
 pub use services::runs_within;
-pub use system_folder::SystemFolder;
+pub use system_folder::{Bounded, SystemFolder};

@@ -1,6 +1,10 @@
 //! The operator's file: `exchange x:LOCAL CHANGE STOP_ID`, `neighbour x:LOCAL CODE CHANGE` and `change CHANGE STOP_ID`, each on
 //! a line of its own, where an id is the rest of its line.
 
+ghost use Rattle.std.specs.Prelude.{IfErr};
+ghost use Rattle.ojp_feed_lines.specs.Refusals.{IsRowRefusal};
+ghost use Rattle.ojp_feed_lines.specs.Lines.{IsOfLine};
+
 use crate::columns::Column;
 use crate::fields::read_count;
 use crate::files::FeedFile;
@@ -28,7 +32,9 @@ pub(crate) fn read_operator(
     bytes: &[u8],
     code: Code,
     stops: &Ids,
-) -> Result<Operator, FeedRefused> {
+) -> Result<Operator, FeedRefused>
+    ensures { IfErr result (λ e. IsRowRefusal FeedFile.Operator e) }
+{
     let mut operator = no_lines(alloc);
     let mut line = 0u64;
     for text in bytes.split(|byte| *byte == b'\n') {
@@ -66,7 +72,9 @@ fn cut(text: &[u8]) -> Option<(&[u8], &[u8])> {
     }
 }
 
-fn take_line(operator: &mut Operator, text: &[u8], code: Code, stops: &Ids) -> Result<(), Refused> {
+fn take_line(operator: &mut Operator, text: &[u8], code: Code, stops: &Ids) -> Result<(), Refused>
+    ensures { IfErr result IsOfLine }
+{
     let Some((word, rest)) = cut(text) else {
         return Err(Refused::For(RowReason::LineForm));
     };
@@ -81,7 +89,9 @@ fn take_line(operator: &mut Operator, text: &[u8], code: Code, stops: &Ids) -> R
     }
 }
 
-fn take_exchange(operator: &mut Operator, rest: &[u8], stops: &Ids) -> Result<(), Refused> {
+fn take_exchange(operator: &mut Operator, rest: &[u8], stops: &Ids) -> Result<(), Refused>
+    ensures { IfErr result IsOfLine }
+{
     let Some((point, rest)) = cut(rest) else {
         return Err(Refused::For(RowReason::LineForm));
     };
@@ -103,7 +113,9 @@ fn take_exchange(operator: &mut Operator, rest: &[u8], stops: &Ids) -> Result<()
     added(put(&mut operator.exchanges, exchange))
 }
 
-fn take_neighbour(operator: &mut Operator, rest: &[u8], code: Code) -> Result<(), Refused> {
+fn take_neighbour(operator: &mut Operator, rest: &[u8], code: Code) -> Result<(), Refused>
+    ensures { IfErr result IsOfLine }
+{
     let Some((point, rest)) = cut(rest) else {
         return Err(Refused::For(RowReason::LineForm));
     };
@@ -136,7 +148,9 @@ fn take_neighbour(operator: &mut Operator, rest: &[u8], code: Code) -> Result<()
     added(put(&mut operator.neighbours, neighbour))
 }
 
-fn take_change(operator: &mut Operator, rest: &[u8], stops: &Ids) -> Result<(), Refused> {
+fn take_change(operator: &mut Operator, rest: &[u8], stops: &Ids) -> Result<(), Refused>
+    ensures { IfErr result IsOfLine }
+{
     let change = change_of(rest, stops)?;
     if operator
         .changes
@@ -149,7 +163,9 @@ fn take_change(operator: &mut Operator, rest: &[u8], stops: &Ids) -> Result<(), 
 }
 
 /// `CHANGE STOP_ID`
-fn change_of(text: &[u8], stops: &Ids) -> Result<StopChange, Refused> {
+fn change_of(text: &[u8], stops: &Ids) -> Result<StopChange, Refused>
+    ensures { IfErr result IsOfLine }
+{
     let Some((change, id)) = cut(text) else {
         return Err(Refused::For(RowReason::LineForm));
     };
@@ -164,21 +180,27 @@ fn change_of(text: &[u8], stops: &Ids) -> Result<StopChange, Refused> {
 }
 
 /// `x:LOCAL`
-fn point_of(text: &[u8]) -> Result<StopRef, Refused> {
+fn point_of(text: &[u8]) -> Result<StopRef, Refused>
+    ensures { IfErr result IsOfLine }
+{
     match StopRef::from_bytes(text) {
         Some(point) if point.is_exchange() => Ok(point),
         _ => Err(Refused::For(RowReason::Value(Column::Exchange))),
     }
 }
 
-fn seconds_of(text: &[u8]) -> Result<u32, Refused> {
+fn seconds_of(text: &[u8]) -> Result<u32, Refused>
+    ensures { IfErr result IsOfLine }
+{
     match read_count(text, LONGEST_CHANGE) {
         Some(seconds) if seconds > 0 => Ok(seconds),
         _ => Err(Refused::For(RowReason::Value(Column::Change))),
     }
 }
 
-fn added(put: Result<(), FeedRefused>) -> Result<(), Refused> {
+fn added(put: Result<(), FeedRefused>) -> Result<(), Refused>
+    ensures { IfErr result IsOfLine }
+{
     match put {
         Ok(()) => Ok(()),
         Err(_) => Err(Refused::NoMemory),

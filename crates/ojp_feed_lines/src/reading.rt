@@ -1,6 +1,11 @@
 //! A feed, read file by file.
 
+ghost use Rattle.std.specs.Prelude.{◌≡◌, ◌≤◌, IfErr, IsTrue};
+ghost use Rattle.ojp_outside.specs.Causes.{Rose};
+ghost use Rattle.ojp_feed_lines.specs.Refusals.{Explains, IsRowRefusal, is_unread};
+
 use crate::agency::read_zone_name;
+use crate::files::FeedFile;
 use crate::folder::Folder;
 use crate::frequencies::read_frequencies;
 use crate::ids::Ids;
@@ -37,7 +42,12 @@ pub fn read_feed<D: Folder>(
     alloc: Global,
     folder: &mut D,
     asked: Asked<'_>,
-) -> Result<Feed, FeedRefused> {
+) -> Result<Feed, FeedRefused>
+    ensures kept { (D.seen folder.new).contents ≡ (D.seen folder.old).contents }
+    ensures later { (D.seen folder.old).faults ≤ (D.seen folder.new).faults }
+    ensures unread { IfErr result (λ e. IsTrue (is_unread e) → Rose (D.seen folder.old).faults (D.seen folder.new).faults) }
+    ensures refused { IfErr result (λ e. Explains (D.seen folder.old).contents e) }
+{
     let zone_name = read_zone_name(alloc, folder)?;
     let places = read_places(alloc, folder)?;
     let operator = operator_of(alloc, asked.operator, asked.code, &places.stops.ids)?;
@@ -61,7 +71,12 @@ struct Runs {
     window: Window,
 }
 
-fn read_places<D: Folder>(alloc: Global, folder: &mut D) -> Result<Places, FeedRefused> {
+fn read_places<D: Folder>(alloc: Global, folder: &mut D) -> Result<Places, FeedRefused>
+    ensures kept { (D.seen folder.new).contents ≡ (D.seen folder.old).contents }
+    ensures later { (D.seen folder.old).faults ≤ (D.seen folder.new).faults }
+    ensures unread { IfErr result (λ e. IsTrue (is_unread e) → Rose (D.seen folder.old).faults (D.seen folder.new).faults) }
+    ensures refused { IfErr result (λ e. Explains (D.seen folder.old).contents e) }
+{
     let stops = read_stops(alloc, folder)?;
     let routes = read_routes(alloc, folder)?;
     Ok(Places { stops, routes })
@@ -73,7 +88,9 @@ fn operator_of(
     lines: Option<&[u8]>,
     code: Code,
     stops: &Ids,
-) -> Result<Operator, FeedRefused> {
+) -> Result<Operator, FeedRefused>
+    ensures { IfErr result (λ e. IsRowRefusal FeedFile.Operator e) }
+{
     match lines {
         Some(bytes) => read_operator(alloc, bytes, code, stops),
         None => Ok(no_lines(alloc)),
@@ -86,7 +103,12 @@ fn read_runs<D: Folder>(
     folder: &mut D,
     places: &Places,
     asked: Window,
-) -> Result<Runs, FeedRefused> {
+) -> Result<Runs, FeedRefused>
+    ensures kept { (D.seen folder.new).contents ≡ (D.seen folder.old).contents }
+    ensures later { (D.seen folder.old).faults ≤ (D.seen folder.new).faults }
+    ensures unread { IfErr result (λ e. IsTrue (is_unread e) → Rose (D.seen folder.old).faults (D.seen folder.new).faults) }
+    ensures refused { IfErr result (λ e. Explains (D.seen folder.old).contents e) }
+{
     let services = read_services(alloc, folder)?;
     let window = narrowed(&services.services, asked);
     let trips = read_trips(alloc, folder, &places.routes.ids, &services.ids)?;
@@ -109,7 +131,12 @@ fn with_calls<D: Folder>(
     services: &Services,
     window: Window,
     trips: Trips,
-) -> Result<Trips, FeedRefused> {
+) -> Result<Trips, FeedRefused>
+    ensures kept { (D.seen folder.new).contents ≡ (D.seen folder.old).contents }
+    ensures later { (D.seen folder.old).faults ≤ (D.seen folder.new).faults }
+    ensures unread { IfErr result (λ e. IsTrue (is_unread e) → Rose (D.seen folder.old).faults (D.seen folder.new).faults) }
+    ensures refused { IfErr result (λ e. Explains (D.seen folder.old).contents e) }
+{
     let running = running_trips(alloc, &trips.trips, &services.services, window)?;
     let known = Known {
         stops,

@@ -1,16 +1,19 @@
 //! `routes.txt`.
 
+ghost use Rattle.std.specs.Prelude.{◌≡◌, ◌≤◌, IfErr, IsTrue};
+ghost use Rattle.ojp_outside.specs.Causes.{Rose};
+ghost use Rattle.ojp_feed_lines.specs.Refusals.{Explains, is_unread};
+
 use crate::columns::Column;
 use crate::fields::is_continuous;
 use crate::files::FeedFile;
-use crate::folder::Folder;
+use crate::folder::{Folder, OpenedFile};
 use crate::ids::{Ids, owned, put};
 use crate::refusals::FeedRefused;
-use crate::rows::{Rows, take_rows};
-use crate::table::{Table, open_needed};
+use crate::rows::{Rows, take_needed};
+use crate::table::Table;
 use ojp_feed_rows::Route;
 use std::alloc::Global;
-use std::io::Read;
 
 /// The routes with their ids, and the rows that promise boarding on the way.
 #[derive(Drop)]
@@ -22,68 +25,67 @@ pub(crate) struct Routes {
 
 /// The places of the columns of `routes.txt`.
 #[derive(Clone, Copy)]
-struct RouteColumns {
+pub(crate) struct RouteColumns {
     id: usize,
     short_name: Option<usize>,
     pickup: Option<usize>,
     drop_off: Option<usize>,
 }
 
-/// The routes so far.
-#[derive(Drop)]
-struct RouteRows {
-    columns: RouteColumns,
-    routes: Routes,
-}
-
-pub(crate) fn read_routes<D: Folder>(alloc: Global, folder: &mut D) -> Result<Routes, FeedRefused> {
-    let mut table = open_needed(alloc, folder, FeedFile::Routes)?;
-    let mut rows = RouteRows {
-        columns: route_columns(&table)?,
-        routes: Routes {
-            ids: Ids::new(alloc),
-            routes: Vec::new(alloc),
-            continuous: 0,
-        },
+/// The routes of the folder.
+pub(crate) fn read_routes<D: Folder>(alloc: Global, folder: &mut D) -> Result<Routes, FeedRefused>
+    ensures kept { (D.seen folder.new).contents ≡ (D.seen folder.old).contents }
+    ensures later { (D.seen folder.old).faults ≤ (D.seen folder.new).faults }
+    ensures unread { IfErr result (λ e. IsTrue (is_unread e) → Rose (D.seen folder.old).faults (D.seen folder.new).faults) }
+    ensures refused { IfErr result (λ e. Explains (D.seen folder.old).contents e) }
+{
+    let mut routes = Routes {
+        ids: Ids::new(alloc),
+        routes: Vec::new(alloc),
+        continuous: 0,
     };
-    take_rows(alloc, &mut table, &mut rows)?;
-    Ok(rows.routes)
+    take_needed(alloc, folder, FeedFile::Routes, &mut routes)?;
+    Ok(routes)
 }
 
-fn route_columns<F: Read + Drop>(table: &Table<F>) -> Result<RouteColumns, FeedRefused> {
-    Ok(RouteColumns {
-        id: table.needed(Column::RouteId)?,
-        short_name: table.place(Column::RouteShortName),
-        pickup: table.place(Column::ContinuousPickup),
-        drop_off: table.place(Column::ContinuousDropOff),
-    })
-}
+impl Rows for Routes {
+    type Columns = RouteColumns;
 
-impl Rows for RouteRows {
-    fn take_row<F: Read + Drop>(
+    const NEEDED: Column = Column::RouteId;
+
+    fn columns<F: OpenedFile>(table: &Table<F>) -> Result<RouteColumns, FeedRefused> {
+        Ok(RouteColumns {
+            id: table.needed(Column::RouteId)?,
+            short_name: table.place(Column::RouteShortName),
+            pickup: table.place(Column::ContinuousPickup),
+            drop_off: table.place(Column::ContinuousDropOff),
+        })
+    }
+
+    fn take_row<F: OpenedFile>(
         &mut self,
         alloc: Global,
         table: &Table<F>,
+        columns: RouteColumns,
     ) -> Result<(), FeedRefused> {
-        let columns = self.columns;
-        self.routes
-            .ids
-            .add_row(alloc, table, columns.id, Column::RouteId)?;
-        put(&mut self.routes.routes, route_of(alloc, table, columns)?)?;
+        self.ids.add_row(alloc, table, columns.id, Column::RouteId)?;
+        put(&mut self.routes, route_of(alloc, table, columns)?)?;
         if is_continuous(table.field_of(columns.pickup))
             || is_continuous(table.field_of(columns.drop_off))
         {
-            self.routes.continuous = self.routes.continuous.saturating_add(1);
+            self.continuous = self.continuous.saturating_add(1);
         }
         Ok(())
     }
 }
 
-fn route_of<F: Read + Drop>(
+fn route_of<F: OpenedFile>(
     alloc: Global,
     table: &Table<F>,
     columns: RouteColumns,
-) -> Result<Route, FeedRefused> {
+) -> Result<Route, FeedRefused>
+    ensures { IfErr result (λ e. e ≡ FeedRefused.NoMemory) }
+{
     let id = owned(alloc, table.field(columns.id))?;
     let short_name = owned(alloc, table.field_of(columns.short_name))?;
     Ok(Route { id, short_name })

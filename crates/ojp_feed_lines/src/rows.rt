@@ -1,31 +1,142 @@
-//! All rows of a file, one after another.
+//! A file of a folder, row by row.
 
-use crate::refusals::FeedRefused;
+ghost use Rattle.std.specs.Prelude.{◌≡◌, ◌≤◌, ◌<◌, IfErr, IsTrue, Ok, false};
+ghost use Rattle.csv.specs.Reading.{reader_source};
+ghost use Rattle.ojp_outside.specs.Causes.{Rose};
+ghost use Rattle.ojp_feed_lines.specs.Folders.{Lacks};
+ghost use Rattle.ojp_feed_lines.specs.Refusals.{Explains, IsNeeded, IsRowRefusal, IsTableRefusal, is_unread};
+
+use crate::columns::Column;
+use crate::files::FeedFile;
+use crate::folder::{Folder, MOST_BYTES, OpenRefused, OpenedFile};
+use crate::refusals::{FeedRefused, RowReason};
 use crate::table::Table;
 use std::alloc::Global;
-use std::io::Read;
 
 /// What the rows of a file become.
 pub(crate) trait Rows {
+    /// The places of the columns.
+    type Columns: Copy;
+
+    /// A column that the head line must have.
+    const NEEDED: Column;
+
+    /// The places by the head line, at which the table is.
+    fn columns<F: OpenedFile>(table: &Table<F>) -> Result<Self::Columns, FeedRefused>
+        ensures { IfErr result (λ e. IsRowRefusal table.now.file e) };
+
     /// Takes the row at which the table is.
-    fn take_row<F: Read + Drop>(
+    fn take_row<F: OpenedFile>(
         &mut self,
         alloc: Global,
         table: &Table<F>,
-    ) -> Result<(), FeedRefused>;
+        columns: Self::Columns,
+    ) -> Result<(), FeedRefused>
+        ensures { IfErr result (λ e. IsRowRefusal table.now.file e) };
 }
 
-/// Takes each row that is left of the table.
-pub(crate) fn take_rows<F: Read + Drop, T: Rows>(
+/// Takes each row of a file of the folder, and tells whether the file is there.
+#[tactic(auto, using(crate::proofs::Explained::table_explained))]
+pub(crate) fn take_file<D: Folder, T: Rows>(
+    alloc: Global,
+    folder: &mut D,
+    file: FeedFile,
+    rows: &mut T,
+) -> Result<bool, FeedRefused>
+    ensures kept { (D.seen folder.new).contents ≡ (D.seen folder.old).contents }
+    ensures later { (D.seen folder.old).faults ≤ (D.seen folder.new).faults }
+    ensures unread { IfErr result (λ e. IsTrue (is_unread e) → Rose (D.seen folder.old).faults (D.seen folder.new).faults) }
+    ensures missing { result ≡ Ok false → Lacks (D.seen folder.old).contents file }
+    ensures refused { IfErr result (λ e. Explains (D.seen folder.old).contents e) }
+{
+    let from = match folder.open(alloc, file) {
+        Ok(from) => from,
+        Err(OpenRefused::Missing) => return Ok(false),
+        Err(OpenRefused::TooLong) => return Err(too_long(file)),
+        Err(OpenRefused::Failed) => return Err(FeedRefused::Unread(file)),
+        Err(OpenRefused::NoMemory) => return Err(FeedRefused::NoMemory),
+    };
+    let mut table = Table::new(alloc, file, from);
+    let taken = take_table(alloc, &mut table, rows);
+    folder.close(table.into_file());
+    match taken {
+        Ok(()) => Ok(true),
+        Err(refused) => Err(refused),
+    }
+}
+
+/// The same for a file that must be there.
+#[tactic(auto, using(crate::proofs::Explained::is_missed))]
+pub(crate) fn take_needed<D: Folder, T: Rows>(
+    alloc: Global,
+    folder: &mut D,
+    file: FeedFile,
+    rows: &mut T,
+) -> Result<(), FeedRefused>
+    requires { IsNeeded file }
+    ensures kept { (D.seen folder.new).contents ≡ (D.seen folder.old).contents }
+    ensures later { (D.seen folder.old).faults ≤ (D.seen folder.new).faults }
+    ensures unread { IfErr result (λ e. IsTrue (is_unread e) → Rose (D.seen folder.old).faults (D.seen folder.new).faults) }
+    ensures refused { IfErr result (λ e. Explains (D.seen folder.old).contents e) }
+{
+    let is_there = take_file(alloc, folder, file, rows)?;
+    if is_there { Ok(()) } else { Err(missing(file)) }
+}
+
+/// The file is not there.
+pub(crate) fn missing(file: FeedFile) -> FeedRefused
+    ensures { result ≡ FeedRefused.At file 1 RowReason.MissingFile }
+{
+    FeedRefused::At {
+        file,
+        line: 1,
+        reason: RowReason::MissingFile,
+    }
+}
+
+/// The file has more bytes than a file may have.
+fn too_long(file: FeedFile) -> FeedRefused
+    ensures table { IsTableRefusal file result }
+    ensures read { is_unread result ≡ false }
+{
+    FeedRefused::At {
+        file,
+        line: 1,
+        reason: RowReason::Limit,
+    }
+}
+
+/// Takes the head line, and then each row.
+fn take_table<F: OpenedFile, T: Rows>(
     alloc: Global,
     table: &mut Table<F>,
     rows: &mut T,
-) -> Result<(), FeedRefused> {
-    for _ in 0..u64::MAX {
-        if !table.next()? {
-            break;
-        }
-        rows.take_row(alloc, table)?;
+) -> Result<(), FeedRefused>
+    ensures refused { IfErr result (λ e. IsTableRefusal table.old.file e) }
+    ensures unread { IfErr result (λ e. IsTrue (is_unread e) → 0 < F.faults (reader_source table.new.rows)) }
+{
+    if !table.next()? {
+        return Err(table.refused(RowReason::MissingColumn(T::NEEDED)));
     }
-    Ok(())
+    let columns = T::columns(table)?;
+    take_rows(alloc, table, columns, rows)
+}
+
+/// Takes each row that is left of the table.
+fn take_rows<F: OpenedFile, T: Rows>(
+    alloc: Global,
+    table: &mut Table<F>,
+    columns: T::Columns,
+    rows: &mut T,
+) -> Result<(), FeedRefused>
+    ensures refused { IfErr result (λ e. IsTableRefusal table.old.file e) }
+    ensures unread { IfErr result (λ e. IsTrue (is_unread e) → 0 < F.faults (reader_source table.new.rows)) }
+{
+    'taking: for _ in 0..MOST_BYTES {
+        if !table.next()? {
+            return Ok(());
+        }
+        rows.take_row(alloc, table, columns)?;
+    }
+    Err(table.refused(RowReason::Limit))
 }

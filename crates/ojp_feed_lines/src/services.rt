@@ -1,17 +1,20 @@
 //! `calendar.txt` and `calendar_dates.txt`.
 
+ghost use Rattle.std.specs.Prelude.{◌≡◌, ◌≤◌, IfErr, IsTrue};
+ghost use Rattle.ojp_outside.specs.Causes.{Rose};
+ghost use Rattle.ojp_feed_lines.specs.Refusals.{Explains, IsRowRefusal, is_unread};
+
 use crate::columns::Column;
 use crate::fields::{read_date, read_flag};
 use crate::files::FeedFile;
-use crate::folder::Folder;
+use crate::folder::{Folder, OpenedFile};
 use crate::ids::{Ids, owned, put};
 use crate::refusals::{FeedRefused, RowReason};
-use crate::rows::{Rows, take_rows};
-use crate::table::{Table, open};
+use crate::rows::{Rows, missing, take_file};
+use crate::table::Table;
 use indexmap::IndexSet;
 use ojp_feed_rows::{Exception, Service, Weekly, Window};
 use std::alloc::Global;
-use std::io::Read;
 
 /// The columns of the weekdays, Monday first.
 const WEEKDAYS: [Column; 7] = [
@@ -33,7 +36,7 @@ pub(crate) struct Services {
 
 /// The places of the columns of `calendar.txt`.
 #[derive(Clone, Copy)]
-struct WeeklyColumns {
+pub(crate) struct WeeklyColumns {
     id: usize,
     weekdays: [usize; 7],
     first: usize,
@@ -43,13 +46,12 @@ struct WeeklyColumns {
 /// The services with the rows of `calendar.txt` so far.
 #[derive(Drop)]
 struct WeeklyRows {
-    columns: WeeklyColumns,
     services: Services,
 }
 
 /// The places of the columns of `calendar_dates.txt`.
 #[derive(Clone, Copy)]
-struct DatedColumns {
+pub(crate) struct DatedColumns {
     id: usize,
     date: usize,
     kind: usize,
@@ -65,7 +67,6 @@ struct Dated {
 /// The services with the rows of `calendar_dates.txt` so far.
 #[derive(Drop)]
 struct DatedRows {
-    columns: DatedColumns,
     services: Services,
     dated: IndexSet<Dated>,
 }
@@ -74,111 +75,76 @@ struct DatedRows {
 pub(crate) fn read_services<D: Folder>(
     alloc: Global,
     folder: &mut D,
-) -> Result<Services, FeedRefused> {
-    let weekly = open(alloc, folder, FeedFile::Calendar)?;
-    let dated = open(alloc, folder, FeedFile::CalendarDates)?;
-    services_of(alloc, weekly, dated)
-}
-
-fn services_of<F: Read + Drop>(
-    alloc: Global,
-    weekly: Option<Table<F>>,
-    dated: Option<Table<F>>,
-) -> Result<Services, FeedRefused> {
-    let services = Services {
-        ids: Ids::new(alloc),
-        services: Vec::new(alloc),
+) -> Result<Services, FeedRefused>
+    ensures kept { (D.seen folder.new).contents ≡ (D.seen folder.old).contents }
+    ensures later { (D.seen folder.old).faults ≤ (D.seen folder.new).faults }
+    ensures unread { IfErr result (λ e. IsTrue (is_unread e) → Rose (D.seen folder.old).faults (D.seen folder.new).faults) }
+    ensures refused { IfErr result (λ e. Explains (D.seen folder.old).contents e) }
+{
+    let mut weekly = WeeklyRows {
+        services: Services {
+            ids: Ids::new(alloc),
+            services: Vec::new(alloc),
+        },
     };
-    match (weekly, dated) {
-        (None, None) => Err(FeedRefused::At {
-            file: FeedFile::Calendar,
-            line: 1,
-            reason: RowReason::MissingFile,
-        }),
-        (Some(weekly), None) => with_weekly(alloc, weekly, services),
-        (None, Some(dated)) => with_dated(alloc, dated, services),
-        (Some(weekly), Some(dated)) => {
-            let services = with_weekly(alloc, weekly, services)?;
-            with_dated(alloc, dated, services)
-        }
+    let has_weekly = take_file(alloc, folder, FeedFile::Calendar, &mut weekly)?;
+    let mut dated = DatedRows {
+        services: weekly.services,
+        dated: IndexSet::new(alloc),
+    };
+    let has_dated = take_file(alloc, folder, FeedFile::CalendarDates, &mut dated)?;
+    if has_weekly || has_dated {
+        Ok(dated.services)
+    } else {
+        Err(missing(FeedFile::Calendar))
     }
 }
 
-fn with_weekly<F: Read + Drop>(
-    alloc: Global,
-    rows: Table<F>,
-    services: Services,
-) -> Result<Services, FeedRefused> {
-    let mut table = rows;
-    let mut rows = WeeklyRows {
-        columns: weekly_columns(&table)?,
-        services,
-    };
-    take_rows(alloc, &mut table, &mut rows)?;
-    Ok(rows.services)
+impl Rows for WeeklyRows {
+    type Columns = WeeklyColumns;
+
+    const NEEDED: Column = Column::Monday;
+
+    fn columns<F: OpenedFile>(table: &Table<F>) -> Result<WeeklyColumns, FeedRefused> {
+        Ok(WeeklyColumns {
+            weekdays: weekday_columns(table)?,
+            id: table.needed(Column::ServiceId)?,
+            first: table.needed(Column::StartDate)?,
+            last: table.needed(Column::EndDate)?,
+        })
+    }
+
+    fn take_row<F: OpenedFile>(
+        &mut self,
+        alloc: Global,
+        table: &Table<F>,
+        columns: WeeklyColumns,
+    ) -> Result<(), FeedRefused> {
+        let weekly = weekly_of(table, columns)?;
+        add_service(alloc, table, columns.id, Some(weekly), &mut self.services)
+    }
 }
 
-fn with_dated<F: Read + Drop>(
-    alloc: Global,
-    rows: Table<F>,
-    services: Services,
-) -> Result<Services, FeedRefused> {
-    let mut table = rows;
-    let mut rows = DatedRows {
-        columns: dated_columns(&table)?,
-        services,
-        dated: IndexSet::new(alloc),
-    };
-    take_rows(alloc, &mut table, &mut rows)?;
-    Ok(rows.services)
-}
-
-fn weekly_columns<F: Read + Drop>(table: &Table<F>) -> Result<WeeklyColumns, FeedRefused> {
+fn weekday_columns<F: OpenedFile>(table: &Table<F>) -> Result<[usize; 7], FeedRefused>
+    ensures { IfErr result (λ e. IsRowRefusal table.now.file e) }
+{
     let mut weekdays = [0usize; 7];
     for day in 0..7usize {
         weekdays[day] = table.needed(WEEKDAYS[day])?;
     }
-    Ok(WeeklyColumns {
-        id: table.needed(Column::ServiceId)?,
-        weekdays,
-        first: table.needed(Column::StartDate)?,
-        last: table.needed(Column::EndDate)?,
-    })
-}
-
-fn dated_columns<F: Read + Drop>(table: &Table<F>) -> Result<DatedColumns, FeedRefused> {
-    Ok(DatedColumns {
-        id: table.needed(Column::ServiceId)?,
-        date: table.needed(Column::Date)?,
-        kind: table.needed(Column::ExceptionType)?,
-    })
-}
-
-impl Rows for WeeklyRows {
-    fn take_row<F: Read + Drop>(
-        &mut self,
-        alloc: Global,
-        table: &Table<F>,
-    ) -> Result<(), FeedRefused> {
-        let weekly = weekly_of(table, self.columns)?;
-        add_service(
-            alloc,
-            table,
-            self.columns.id,
-            Some(weekly),
-            &mut self.services,
-        )
-    }
+    Ok(weekdays)
 }
 
 /// Adds the service of the row, whose id must be new.
-fn add_service<F: Read + Drop>(
+fn add_service<F: OpenedFile>(
     alloc: Global,
     table: &Table<F>,
     place: usize,
     weekly: Option<Weekly>,
     services: &mut Services,
-) -> Result<(), FeedRefused> {
+) -> Result<(), FeedRefused>
+    ensures { IfErr result (λ e. IsRowRefusal table.now.file e) }
+{
     services
         .ids
         .add_row(alloc, table, place, Column::ServiceId)?;
@@ -193,15 +159,10 @@ fn add_service<F: Read + Drop>(
     )
 }
 
-fn weekly_of<F: Read + Drop>(
-    table: &Table<F>,
-    columns: WeeklyColumns,
-) -> Result<Weekly, FeedRefused> {
-    let mut marks = [false; 7];
-    for day in 0..7usize {
-        let mark = read_flag(table.field(columns.weekdays[day]));
-        marks[day] = table.value(mark, WEEKDAYS[day])?;
-    }
+fn weekly_of<F: OpenedFile>(table: &Table<F>, columns: WeeklyColumns) -> Result<Weekly, FeedRefused>
+    ensures { IfErr result (λ e. IsRowRefusal table.now.file e) }
+{
+    let marks = marks_of(table, columns.weekdays)?;
     let first = table.value(
         read_date(table.field(columns.first).as_bytes()),
         Column::StartDate,
@@ -216,14 +177,39 @@ fn weekly_of<F: Read + Drop>(
     Ok(Weekly { first, last, marks })
 }
 
+/// On which weekdays the service runs.
+fn marks_of<F: OpenedFile>(table: &Table<F>, weekdays: [usize; 7]) -> Result<[bool; 7], FeedRefused>
+    ensures { IfErr result (λ e. IsRowRefusal table.now.file e) }
+{
+    let mut marks = [false; 7];
+    for day in 0..7usize {
+        let mark = read_flag(table.field(weekdays[day]));
+        marks[day] = table.value(mark, WEEKDAYS[day])?;
+    }
+    Ok(marks)
+}
+
 impl Rows for DatedRows {
-    fn take_row<F: Read + Drop>(
+    type Columns = DatedColumns;
+
+    const NEEDED: Column = Column::ServiceId;
+
+    fn columns<F: OpenedFile>(table: &Table<F>) -> Result<DatedColumns, FeedRefused> {
+        Ok(DatedColumns {
+            id: table.needed(Column::ServiceId)?,
+            date: table.needed(Column::Date)?,
+            kind: table.needed(Column::ExceptionType)?,
+        })
+    }
+
+    fn take_row<F: OpenedFile>(
         &mut self,
         alloc: Global,
         table: &Table<F>,
+        columns: DatedColumns,
     ) -> Result<(), FeedRefused> {
-        let service = service_of(alloc, table, self.columns.id, &mut self.services)?;
-        let exception = exception_of(table, self.columns)?;
+        let service = service_of(alloc, table, columns.id, &mut self.services)?;
+        let exception = exception_of(table, columns)?;
         let dated = Dated {
             service,
             day: exception.day,
@@ -236,10 +222,12 @@ impl Rows for DatedRows {
     }
 }
 
-fn exception_of<F: Read + Drop>(
+fn exception_of<F: OpenedFile>(
     table: &Table<F>,
     columns: DatedColumns,
-) -> Result<Exception, FeedRefused> {
+) -> Result<Exception, FeedRefused>
+    ensures { IfErr result (λ e. IsRowRefusal table.now.file e) }
+{
     let day = table.value(
         read_date(table.field(columns.date).as_bytes()),
         Column::Date,
@@ -265,7 +253,9 @@ fn add_exception(
     services: &mut Vec<Service>,
     service: u32,
     exception: Exception,
-) -> Result<(), FeedRefused> {
+) -> Result<(), FeedRefused>
+    ensures { IfErr result (λ e. e ≡ FeedRefused.NoMemory) }
+{
     match services.get_mut(service as usize) {
         Some(service) => put(&mut service.exceptions, exception),
         None => Ok(()),
@@ -273,12 +263,14 @@ fn add_exception(
 }
 
 /// The number of the service of the row, which is added where it is new.
-fn service_of<F: Read + Drop>(
+fn service_of<F: OpenedFile>(
     alloc: Global,
     table: &Table<F>,
     place: usize,
     services: &mut Services,
-) -> Result<u32, FeedRefused> {
+) -> Result<u32, FeedRefused>
+    ensures { IfErr result (λ e. IsRowRefusal table.now.file e) }
+{
     if let Some(number) = services.ids.number(table.field(place)) {
         return Ok(number);
     }

@@ -1,22 +1,25 @@
 //! `stop_times.txt`, the longest of the files.
 
+ghost use Rattle.std.specs.Prelude.{◌≡◌, ◌≤◌, IfErr, IsTrue};
+ghost use Rattle.ojp_outside.specs.Causes.{Rose};
+ghost use Rattle.ojp_feed_lines.specs.Refusals.{Explains, IsRowRefusal, is_unread};
+
 use crate::columns::Column;
 use crate::fields::{is_continuous, read_access, read_count, read_empty_or_time};
 use crate::files::FeedFile;
-use crate::folder::Folder;
+use crate::folder::{Folder, OpenedFile};
 use crate::ids::{Ids, put};
 use crate::refusals::FeedRefused;
-use crate::rows::{Rows, take_rows};
+use crate::rows::{Rows, take_needed};
 use crate::services::runs_within;
-use crate::table::{Table, open_needed};
+use crate::table::Table;
 use crate::trips::Trips;
 use ojp_feed_rows::{Service, StopTime, Trip, Window};
 use std::alloc::Global;
-use std::io::Read;
 
 /// The places of the columns of `stop_times.txt`.
 #[derive(Clone, Copy)]
-struct CallColumns {
+pub(crate) struct CallColumns {
     trip: usize,
     stop: usize,
     sequence: usize,
@@ -39,7 +42,6 @@ pub(crate) struct Known<'a> {
 /// The trips with the rows so far.
 #[derive(Drop)]
 struct CallRows<'a> {
-    columns: CallColumns,
     known: Known<'a>,
     trips: Trips,
 }
@@ -50,42 +52,72 @@ pub(crate) fn read_stop_times<D: Folder>(
     folder: &mut D,
     known: Known<'_>,
     trips: Trips,
-) -> Result<Trips, FeedRefused> {
-    let mut table = open_needed(alloc, folder, FeedFile::StopTimes)?;
-    let mut rows = CallRows {
-        columns: call_columns(&table)?,
-        known,
-        trips,
-    };
-    take_rows(alloc, &mut table, &mut rows)?;
+) -> Result<Trips, FeedRefused>
+    ensures kept { (D.seen folder.new).contents ≡ (D.seen folder.old).contents }
+    ensures later { (D.seen folder.old).faults ≤ (D.seen folder.new).faults }
+    ensures unread { IfErr result (λ e. IsTrue (is_unread e) → Rose (D.seen folder.old).faults (D.seen folder.new).faults) }
+    ensures refused { IfErr result (λ e. Explains (D.seen folder.old).contents e) }
+{
+    let mut rows = CallRows { known, trips };
+    take_needed(alloc, folder, FeedFile::StopTimes, &mut rows)?;
     Ok(rows.trips)
 }
 
-fn call_columns<F: Read + Drop>(table: &Table<F>) -> Result<CallColumns, FeedRefused> {
-    Ok(CallColumns {
-        trip: table.needed(Column::TripId)?,
-        stop: table.needed(Column::StopId)?,
-        sequence: table.needed(Column::StopSequence)?,
-        arrival: table.needed(Column::ArrivalTime)?,
-        departure: table.needed(Column::DepartureTime)?,
-        boarding: table.place(Column::PickupType),
-        alighting: table.place(Column::DropOffType),
-        pickup: table.place(Column::ContinuousPickup),
-        drop_off: table.place(Column::ContinuousDropOff),
-    })
+impl Rows for CallRows<'_> {
+    type Columns = CallColumns;
+
+    const NEEDED: Column = Column::TripId;
+
+    fn columns<F: OpenedFile>(table: &Table<F>) -> Result<CallColumns, FeedRefused>
+        ensures { IfErr result (λ e. IsRowRefusal table.now.file e) }
+    {
+        Ok(CallColumns {
+            trip: table.needed(Column::TripId)?,
+            stop: table.needed(Column::StopId)?,
+            sequence: table.needed(Column::StopSequence)?,
+            arrival: table.needed(Column::ArrivalTime)?,
+            departure: table.needed(Column::DepartureTime)?,
+            boarding: table.place(Column::PickupType),
+            alighting: table.place(Column::DropOffType),
+            pickup: table.place(Column::ContinuousPickup),
+            drop_off: table.place(Column::ContinuousDropOff),
+        })
+    }
+
+    fn take_row<F: OpenedFile>(
+        &mut self,
+        _: Global,
+        table: &Table<F>,
+        columns: CallColumns,
+    ) -> Result<(), FeedRefused> {
+        let row = stop_time_of(table, columns)?;
+        let stop = self.known.stops.number(table.field(columns.stop));
+        let trip = self.trips.ids.number(table.field(columns.trip));
+        self.count_continuous(table, columns);
+        self.add(trip, stop, row)
+    }
 }
 
-impl Rows for CallRows<'_> {
-    fn take_row<F: Read + Drop>(&mut self, _: Global, table: &Table<F>) -> Result<(), FeedRefused> {
-        let columns = self.columns;
-        let row = stop_time_of(table, columns)?;
+impl CallRows<'_> {
+    /// Counts a row that promises boarding on the way.
+    fn count_continuous<F: OpenedFile>(&mut self, table: &Table<F>, columns: CallColumns) {
         if is_continuous(table.field_of(columns.pickup))
             || is_continuous(table.field_of(columns.drop_off))
         {
             self.trips.continuous = self.trips.continuous.saturating_add(1);
         }
-        let stop = self.known.stops.number(table.field(columns.stop));
-        match self.trips.ids.number(table.field(columns.trip)) {
+    }
+
+    /// Adds the row at the stop to the trip of that number; one without a trip is counted.
+    fn add(
+        &mut self,
+        trip: Option<u32>,
+        stop: Option<u32>,
+        row: StopTime,
+    ) -> Result<(), FeedRefused>
+        ensures { IfErr result (λ e. e ≡ FeedRefused.NoMemory) }
+    {
+        match trip {
             Some(trip) => {
                 let trip = trip as usize;
                 let runs = self.known.running.get(trip) == Some(&true);
@@ -106,7 +138,9 @@ fn add_call(
     runs: bool,
     stop: Option<u32>,
     row: StopTime,
-) -> Result<(), FeedRefused> {
+) -> Result<(), FeedRefused>
+    ensures { IfErr result (λ e. e ≡ FeedRefused.NoMemory) }
+{
     let Some(trip) = trips.get_mut(trip) else {
         return Ok(());
     };
@@ -121,10 +155,12 @@ fn add_call(
 }
 
 /// The row, at the stop 0.
-fn stop_time_of<F: Read + Drop>(
+fn stop_time_of<F: OpenedFile>(
     table: &Table<F>,
     columns: CallColumns,
-) -> Result<StopTime, FeedRefused> {
+) -> Result<StopTime, FeedRefused>
+    ensures { IfErr result (λ e. IsRowRefusal table.now.file e) }
+{
     let sequence = read_count(table.field(columns.sequence).as_bytes(), u32::MAX);
     let arrival = read_empty_or_time(table.field(columns.arrival).as_bytes());
     let departure = read_empty_or_time(table.field(columns.departure).as_bytes());
@@ -141,7 +177,9 @@ fn stop_time_of<F: Read + Drop>(
 }
 
 /// Puts the rows of each trip in the order of their sequences.
-pub(crate) fn sort_stop_times(trips: &mut Vec<Trip>) -> Result<(), FeedRefused> {
+pub(crate) fn sort_stop_times(trips: &mut Vec<Trip>) -> Result<(), FeedRefused>
+    ensures { IfErr result (λ e. e ≡ FeedRefused.NoMemory) }
+{
     for trip in trips.iter_mut() {
         if trip.stop_times.sort_by_key(|row| row.sequence).is_err() {
             return Err(FeedRefused::NoMemory);
@@ -156,11 +194,10 @@ pub(crate) fn running_trips(
     trips: &[Trip],
     services: &[Service],
     window: Window,
-) -> Result<Vec<bool>, FeedRefused> {
-    let mut runs = Vec::new(alloc);
-    for service in services {
-        put(&mut runs, runs_within(service, window))?;
-    }
+) -> Result<Vec<bool>, FeedRefused>
+    ensures { IfErr result (λ e. e ≡ FeedRefused.NoMemory) }
+{
+    let runs = running_services(alloc, services, window)?;
     let mut running = Vec::new(alloc);
     for trip in trips {
         let is_running = match trip.service {
@@ -170,4 +207,19 @@ pub(crate) fn running_trips(
         put(&mut running, is_running)?;
     }
     Ok(running)
+}
+
+/// Whether each service has a day in the window.
+fn running_services(
+    alloc: Global,
+    services: &[Service],
+    window: Window,
+) -> Result<Vec<bool>, FeedRefused>
+    ensures { IfErr result (λ e. e ≡ FeedRefused.NoMemory) }
+{
+    let mut runs = Vec::new(alloc);
+    for service in services {
+        put(&mut runs, runs_within(service, window))?;
+    }
+    Ok(runs)
 }

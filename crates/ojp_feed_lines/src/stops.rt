@@ -1,16 +1,19 @@
 //! `stops.txt`.
 
+ghost use Rattle.std.specs.Prelude.{◌≡◌, ◌≤◌, IfErr, IsTrue};
+ghost use Rattle.ojp_outside.specs.Causes.{Rose};
+ghost use Rattle.ojp_feed_lines.specs.Refusals.{Explains, IsRowRefusal, is_unread};
+
 use crate::columns::Column;
 use crate::fields::read_location;
 use crate::files::FeedFile;
-use crate::folder::Folder;
+use crate::folder::{Folder, OpenedFile};
 use crate::ids::{Ids, owned, put};
 use crate::refusals::FeedRefused;
-use crate::rows::{Rows, take_rows};
-use crate::table::{Table, open_needed};
+use crate::rows::{Rows, take_needed};
+use crate::table::Table;
 use ojp_feed_rows::Stop;
 use std::alloc::Global;
-use std::io::Read;
 
 /// The stops with their ids, and the rows whose parent is no stop.
 #[derive(Drop)]
@@ -22,7 +25,7 @@ pub(crate) struct Stops {
 
 /// The places of the columns of `stops.txt`.
 #[derive(Clone, Copy)]
-struct StopColumns {
+pub(crate) struct StopColumns {
     id: usize,
     name: Option<usize>,
     kind: Option<usize>,
@@ -32,40 +35,47 @@ struct StopColumns {
 /// The stops so far, without their parents, whose ids stand beside them.
 #[derive(Drop)]
 struct StopRows {
-    columns: StopColumns,
     ids: Ids,
     stops: Vec<Stop>,
     parents: Vec<String>,
 }
 
-pub(crate) fn read_stops<D: Folder>(alloc: Global, folder: &mut D) -> Result<Stops, FeedRefused> {
-    let mut table = open_needed(alloc, folder, FeedFile::Stops)?;
+/// The stops of the folder.
+pub(crate) fn read_stops<D: Folder>(alloc: Global, folder: &mut D) -> Result<Stops, FeedRefused>
+    ensures kept { (D.seen folder.new).contents ≡ (D.seen folder.old).contents }
+    ensures later { (D.seen folder.old).faults ≤ (D.seen folder.new).faults }
+    ensures unread { IfErr result (λ e. IsTrue (is_unread e) → Rose (D.seen folder.old).faults (D.seen folder.new).faults) }
+    ensures refused { IfErr result (λ e. Explains (D.seen folder.old).contents e) }
+{
     let mut rows = StopRows {
-        columns: stop_columns(&table)?,
         ids: Ids::new(alloc),
         stops: Vec::new(alloc),
         parents: Vec::new(alloc),
     };
-    take_rows(alloc, &mut table, &mut rows)?;
+    take_needed(alloc, folder, FeedFile::Stops, &mut rows)?;
     Ok(with_parents(rows))
 }
 
-fn stop_columns<F: Read + Drop>(table: &Table<F>) -> Result<StopColumns, FeedRefused> {
-    Ok(StopColumns {
-        id: table.needed(Column::StopId)?,
-        name: table.place(Column::StopName),
-        kind: table.place(Column::LocationType),
-        parent: table.place(Column::ParentStation),
-    })
-}
-
 impl Rows for StopRows {
-    fn take_row<F: Read + Drop>(
+    type Columns = StopColumns;
+
+    const NEEDED: Column = Column::StopId;
+
+    fn columns<F: OpenedFile>(table: &Table<F>) -> Result<StopColumns, FeedRefused> {
+        Ok(StopColumns {
+            id: table.needed(Column::StopId)?,
+            name: table.place(Column::StopName),
+            kind: table.place(Column::LocationType),
+            parent: table.place(Column::ParentStation),
+        })
+    }
+
+    fn take_row<F: OpenedFile>(
         &mut self,
         alloc: Global,
         table: &Table<F>,
+        columns: StopColumns,
     ) -> Result<(), FeedRefused> {
-        let columns = self.columns;
         self.ids.add_row(alloc, table, columns.id, Column::StopId)?;
         put(&mut self.stops, stop_of(alloc, table, columns)?)?;
         put(
@@ -76,11 +86,13 @@ impl Rows for StopRows {
 }
 
 /// The stop of the row, without its parent.
-fn stop_of<F: Read + Drop>(
+fn stop_of<F: OpenedFile>(
     alloc: Global,
     table: &Table<F>,
     columns: StopColumns,
-) -> Result<Stop, FeedRefused> {
+) -> Result<Stop, FeedRefused>
+    ensures { IfErr result (λ e. IsRowRefusal table.now.file e) }
+{
     let kind = read_location(table.field_of(columns.kind));
     let kind = table.value(kind, Column::LocationType)?;
     let id = owned(alloc, table.field(columns.id))?;

@@ -1,32 +1,33 @@
 //! The rows of a file, one after another.
 
+ghost use Rattle.std.specs.Prelude.{◌≡◌, ◌<◌, IfErr, IsTrue, false};
+ghost use Rattle.csv.specs.Reading.{reader_source};
+ghost use Rattle.ojp_feed_lines.specs.Refusals.{IsRowRefusal, IsTableRefusal, is_of_row, is_unread};
+
 use crate::columns::Column;
 use crate::files::FeedFile;
-use crate::folder::{Folder, OpenRefused};
+use crate::folder::OpenedFile;
 use crate::refusals::{FeedRefused, RowReason};
 use csv::{ErrorKind, Position, Reader, ReaderBuilder, StringRecord};
 use std::alloc::Global;
-use std::io;
-use std::io::{Read, Take};
-
-/// The most bytes of a file: 536,870,912.
-pub const MOST_BYTES: u64 = 536_870_912;
 
 /// A file under its head line, at one of its rows.
 #[derive(Drop)]
-pub(crate) struct Table<F: Read + Drop> {
+pub(crate) struct Table<F: OpenedFile> {
     file: FeedFile,
-    rows: Reader<Take<F>>,
+    rows: Reader<F>,
     row: StringRecord,
     line: u64,
 }
 
-impl<F: Read + Drop> Table<F> {
+impl<F: OpenedFile> Table<F> {
     /// The rows of a file, at none of them.
-    pub fn new(alloc: Global, file: FeedFile, from: F) -> Table<F> {
+    pub fn new(alloc: Global, file: FeedFile, from: F) -> Table<F>
+        ensures file { result.file ≡ file }
+    {
         let rows = ReaderBuilder::new()
             .has_headers(false)
-            .from_reader(alloc, from.take(MOST_BYTES + 1));
+            .from_reader(alloc, from);
         Table {
             file,
             rows,
@@ -35,34 +36,77 @@ impl<F: Read + Drop> Table<F> {
         }
     }
 
+    /// The file, which may be read in part.
+    pub fn into_file(self) -> F
+        ensures { result ≡ reader_source self.rows }
+    {
+        self.rows.into_inner()
+    }
+
     /// Goes to the next row, the first time to the head line; false behind the last.
-    pub fn next(&mut self) -> Result<bool, FeedRefused> {
-        let found = match self.rows.read_record(&mut self.row) {
-            Ok(found) => found,
-            Err(error) => return Err(refusal(self.file, error.into_kind())),
-        };
-        self.line = match self.row.position() {
-            Some(at) if found => at.line,
-            _ => self.rows.position().line,
-        };
-        if self.rows.get_ref().limit() == 0 {
-            return Err(self.refused(RowReason::Limit));
+    pub fn next(&mut self) -> Result<bool, FeedRefused>
+        ensures file { self.new.file ≡ self.old.file }
+        ensures at { IfErr result (λ e. IsTableRefusal self.old.file e) }
+        ensures unread { IfErr result (λ e. IsTrue (is_unread e) → 0 < F.faults (reader_source self.new.rows)) }
+    {
+        match self.rows.read_record(&mut self.row) {
+            Ok(found) => {
+                self.line = self.line_now(found);
+                Ok(found)
+            }
+            Err(error) => Err(self.refusal(error.into_kind())),
         }
-        Ok(found)
+    }
+
+    /// The line where the row begins, and the last one where there is no row.
+    fn line_now(&self, is_row: bool) -> u64 {
+        match self.row.position() {
+            Some(at) if is_row => at.line,
+            _ => self.rows.position().line,
+        }
+    }
+
+    /// The refusal of a row that could not be read. An error that the file does not count is want of memory.
+    #[tactic(auto, using(crate::proofs::Explained::some_fault))]
+    fn refusal(&self, cause: ErrorKind) -> FeedRefused
+        ensures at { IsTableRefusal self.now.file result }
+        ensures unread { IsTrue (is_unread result) → 0 < F.faults (reader_source self.now.rows) }
+    {
+        match cause {
+            ErrorKind::Utf8 { pos, .. } => at(self.file, pos, RowReason::NotText),
+            ErrorKind::UnequalLengths { pos, .. } => at(self.file, pos, RowReason::Width),
+            _ => {
+                if self.rows.get_ref().has_failed() {
+                    FeedRefused::Unread(self.file)
+                } else {
+                    FeedRefused::NoMemory
+                }
+            }
+        }
     }
 
     /// The place of the column among the names of the row.
     pub fn place(&self, column: Column) -> Option<usize> {
         for place in 0..self.row.len() {
-            if self.row.get(place) == Some(column.name()) {
+            if self.is_named(place, column) {
                 return Some(place);
             }
         }
         None
     }
 
+    /// Whether the field at that place is the name of the column.
+    fn is_named(&self, place: usize, column: Column) -> bool {
+        match self.row.get(place) {
+            Some(name) => name == column.name(),
+            None => false,
+        }
+    }
+
     /// The place of the column, which the head line must have.
-    pub fn needed(&self, column: Column) -> Result<usize, FeedRefused> {
+    pub fn needed(&self, column: Column) -> Result<usize, FeedRefused>
+        ensures { IfErr result (λ e. IsRowRefusal self.now.file e) }
+    {
         match self.place(column) {
             Some(place) => Ok(place),
             None => Err(self.refused(RowReason::MissingColumn(column))),
@@ -86,7 +130,12 @@ impl<F: Read + Drop> Table<F> {
     }
 
     /// The refusal of the row.
-    pub fn refused(&self, reason: RowReason) -> FeedRefused {
+    pub fn refused(&self, reason: RowReason) -> FeedRefused
+        requires { IsTrue (is_of_row reason) }
+        ensures row { IsRowRefusal self.now.file result }
+        ensures table { IsTableRefusal self.now.file result }
+        ensures read { is_unread result ≡ false }
+    {
         FeedRefused::At {
             file: self.file,
             line: self.line,
@@ -95,7 +144,9 @@ impl<F: Read + Drop> Table<F> {
     }
 
     /// The value of a field that was read.
-    pub fn value<T>(&self, read: Option<T>, column: Column) -> Result<T, FeedRefused> {
+    pub fn value<T>(&self, read: Option<T>, column: Column) -> Result<T, FeedRefused>
+        ensures { IfErr result (λ e. IsRowRefusal self.now.file e) }
+    {
         match read {
             Some(value) => Ok(value),
             None => Err(self.refused(RowReason::Value(column))),
@@ -103,7 +154,9 @@ impl<F: Read + Drop> Table<F> {
     }
 
     /// The text of a field, of one byte or more.
-    pub fn id(&self, place: usize, column: Column) -> Result<&str, FeedRefused> {
+    pub fn id(&self, place: usize, column: Column) -> Result<&str, FeedRefused>
+        ensures { IfErr result (λ e. IsRowRefusal self.now.file e) }
+    {
         let id = self.field(place);
         if id.is_empty() {
             Err(self.refused(RowReason::Value(column)))
@@ -113,54 +166,11 @@ impl<F: Read + Drop> Table<F> {
     }
 }
 
-/// Opens a file of the folder and reads its head line; none where it is not there.
-pub(crate) fn open<D: Folder>(
-    alloc: Global,
-    folder: &mut D,
-    file: FeedFile,
-) -> Result<Option<Table<D::File>>, FeedRefused> {
-    let from = match folder.open(alloc, file.name()) {
-        Ok(from) => from,
-        Err(OpenRefused::Missing) => return Ok(None),
-        Err(OpenRefused::Failed) => return Err(FeedRefused::Unread(file)),
-        Err(OpenRefused::NoMemory) => return Err(FeedRefused::NoMemory),
-    };
-    let mut table = Table::new(alloc, file, from);
-    table.next()?;
-    Ok(Some(table))
-}
-
-/// The same for a file that must be there.
-pub(crate) fn open_needed<D: Folder>(
-    alloc: Global,
-    folder: &mut D,
-    file: FeedFile,
-) -> Result<Table<D::File>, FeedRefused> {
-    match open(alloc, folder, file)? {
-        Some(table) => Ok(table),
-        None => Err(FeedRefused::At {
-            file,
-            line: 1,
-            reason: RowReason::MissingFile,
-        }),
-    }
-}
-
-/// The refusal of a file whose next row could not be read.
-fn refusal(file: FeedFile, cause: ErrorKind) -> FeedRefused {
-    match cause {
-        ErrorKind::Io(error) => match error.kind() {
-            io::ErrorKind::OutOfMemory => FeedRefused::NoMemory,
-            _ => FeedRefused::Unread(file),
-        },
-        ErrorKind::Utf8 { pos, .. } => at(file, pos, RowReason::NotText),
-        ErrorKind::UnequalLengths { pos, .. } => at(file, pos, RowReason::Width),
-        ErrorKind::OutOfMemory => FeedRefused::NoMemory,
-        _ => FeedRefused::Unread(file),
-    }
-}
-
-fn at(file: FeedFile, place: Option<Position>, reason: RowReason) -> FeedRefused {
+fn at(file: FeedFile, place: Option<Position>, reason: RowReason) -> FeedRefused
+    requires { IsTrue (is_of_row reason) }
+    ensures table { IsTableRefusal file result }
+    ensures read { is_unread result ≡ false }
+{
     let line = match place {
         Some(place) => place.line,
         None => 1,

@@ -1,20 +1,23 @@
 //! `transfers.txt`.
 
+ghost use Rattle.std.specs.Prelude.{◌≡◌, ◌≤◌, IfErr, IsTrue};
+ghost use Rattle.ojp_outside.specs.Causes.{Rose};
+ghost use Rattle.ojp_feed_lines.specs.Refusals.{Explains, IsRowRefusal, is_unread};
+
 use crate::columns::Column;
 use crate::fields::read_count;
 use crate::files::FeedFile;
-use crate::folder::Folder;
+use crate::folder::{Folder, OpenedFile};
 use crate::ids::{Ids, put};
 use crate::refusals::FeedRefused;
-use crate::rows::{Rows, take_rows};
-use crate::table::{Table, open};
+use crate::rows::{Rows, take_file};
+use crate::table::Table;
 use ojp_feed_rows::Transfer;
 use std::alloc::Global;
-use std::io::Read;
 
 /// The places of the columns of `transfers.txt`.
 #[derive(Clone, Copy)]
-struct TransferColumns {
+pub(crate) struct TransferColumns {
     from: usize,
     to: usize,
     kind: Option<usize>,
@@ -44,7 +47,6 @@ pub(crate) struct Transfers {
 /// The transfers so far.
 #[derive(Drop)]
 struct TransferRows<'a> {
-    columns: TransferColumns,
     stops: &'a Ids,
     transfers: Transfers,
 }
@@ -54,56 +56,55 @@ pub(crate) fn read_transfers<D: Folder>(
     alloc: Global,
     folder: &mut D,
     stops: &Ids,
-) -> Result<Transfers, FeedRefused> {
-    match open(alloc, folder, FeedFile::Transfers)? {
-        Some(table) => transfers_of(alloc, table, stops),
-        None => Ok(no_transfers(alloc)),
-    }
-}
-
-fn no_transfers(alloc: Global) -> Transfers {
-    Transfers {
-        transfers: Vec::new(alloc),
-        untimed: 0,
-        special: 0,
-        typed: 0,
-    }
-}
-
-fn transfers_of<F: Read + Drop>(
-    alloc: Global,
-    rows: Table<F>,
-    stops: &Ids,
-) -> Result<Transfers, FeedRefused> {
-    let mut table = rows;
+) -> Result<Transfers, FeedRefused>
+    ensures kept { (D.seen folder.new).contents ≡ (D.seen folder.old).contents }
+    ensures later { (D.seen folder.old).faults ≤ (D.seen folder.new).faults }
+    ensures unread { IfErr result (λ e. IsTrue (is_unread e) → Rose (D.seen folder.old).faults (D.seen folder.new).faults) }
+    ensures refused { IfErr result (λ e. Explains (D.seen folder.old).contents e) }
+{
     let mut rows = TransferRows {
-        columns: transfer_columns(&table)?,
         stops,
-        transfers: no_transfers(alloc),
+        transfers: Transfers {
+            transfers: Vec::new(alloc),
+            untimed: 0,
+            special: 0,
+            typed: 0,
+        },
     };
-    take_rows(alloc, &mut table, &mut rows)?;
+    take_file(alloc, folder, FeedFile::Transfers, &mut rows)?;
     Ok(rows.transfers)
 }
 
-fn transfer_columns<F: Read + Drop>(table: &Table<F>) -> Result<TransferColumns, FeedRefused> {
-    Ok(TransferColumns {
-        from: table.needed(Column::FromStopId)?,
-        to: table.needed(Column::ToStopId)?,
-        kind: table.place(Column::TransferType),
-        seconds: table.place(Column::MinTransferTime),
-        special: [
-            table.place(Column::FromRouteId),
-            table.place(Column::ToRouteId),
-            table.place(Column::FromTripId),
-            table.place(Column::ToTripId),
-        ],
-    })
-}
-
 impl Rows for TransferRows<'_> {
-    fn take_row<F: Read + Drop>(&mut self, _: Global, table: &Table<F>) -> Result<(), FeedRefused> {
+    type Columns = TransferColumns;
+
+    const NEEDED: Column = Column::FromStopId;
+
+    fn columns<F: OpenedFile>(table: &Table<F>) -> Result<TransferColumns, FeedRefused>
+        ensures { IfErr result (λ e. IsRowRefusal table.now.file e) }
+    {
+        Ok(TransferColumns {
+            from: table.needed(Column::FromStopId)?,
+            to: table.needed(Column::ToStopId)?,
+            kind: table.place(Column::TransferType),
+            seconds: table.place(Column::MinTransferTime),
+            special: [
+                table.place(Column::FromRouteId),
+                table.place(Column::ToRouteId),
+                table.place(Column::FromTripId),
+                table.place(Column::ToTripId),
+            ],
+        })
+    }
+
+    fn take_row<F: OpenedFile>(
+        &mut self,
+        _: Global,
+        table: &Table<F>,
+        columns: TransferColumns,
+    ) -> Result<(), FeedRefused> {
         let transfers = &mut self.transfers;
-        match row_of(table, self.columns, self.stops)? {
+        match row_of(table, columns, self.stops)? {
             Row::Timed(transfer) => put(&mut transfers.transfers, transfer)?,
             Row::Untimed => transfers.untimed = transfers.untimed.saturating_add(1),
             Row::Special => transfers.special = transfers.special.saturating_add(1),
@@ -113,11 +114,13 @@ impl Rows for TransferRows<'_> {
     }
 }
 
-fn row_of<F: Read + Drop>(
+fn row_of<F: OpenedFile>(
     table: &Table<F>,
     columns: TransferColumns,
     stops: &Ids,
-) -> Result<Row, FeedRefused> {
+) -> Result<Row, FeedRefused>
+    ensures { IfErr result (λ e. IsRowRefusal table.now.file e) }
+{
     let kind = table.value(
         read_kind(table.field_of(columns.kind).as_bytes()),
         Column::TransferType,
@@ -144,7 +147,7 @@ fn row_of<F: Read + Drop>(
     }
 }
 
-fn is_special<F: Read + Drop>(table: &Table<F>, columns: TransferColumns) -> bool {
+fn is_special<F: OpenedFile>(table: &Table<F>, columns: TransferColumns) -> bool {
     columns
         .special
         .iter()

@@ -1,15 +1,18 @@
 //! `trips.txt`.
 
+ghost use Rattle.std.specs.Prelude.{◌≡◌, ◌≤◌, IfErr, IsTrue};
+ghost use Rattle.ojp_outside.specs.Causes.{Rose};
+ghost use Rattle.ojp_feed_lines.specs.Refusals.{Explains, IsRowRefusal, is_unread};
+
 use crate::columns::Column;
 use crate::files::FeedFile;
-use crate::folder::Folder;
+use crate::folder::{Folder, OpenedFile};
 use crate::ids::{Ids, owned, put};
 use crate::refusals::FeedRefused;
-use crate::rows::{Rows, take_rows};
-use crate::table::{Table, open_needed};
+use crate::rows::{Rows, take_needed};
+use crate::table::Table;
 use ojp_feed_rows::Trip;
 use std::alloc::Global;
-use std::io::Read;
 
 /// The trips with their ids, and what is counted of rows that are about them.
 #[derive(Drop)]
@@ -28,7 +31,7 @@ pub(crate) struct Trips {
 
 /// The places of the columns of `trips.txt`.
 #[derive(Clone, Copy)]
-struct TripColumns {
+pub(crate) struct TripColumns {
     id: usize,
     route: usize,
     service: usize,
@@ -45,7 +48,6 @@ struct Known<'a> {
 /// The trips so far, and the blocks that they name.
 #[derive(Drop)]
 struct TripRows<'a> {
-    columns: TripColumns,
     known: Known<'a>,
     trips: Trips,
     blocks: Ids,
@@ -57,15 +59,18 @@ pub(crate) fn read_trips<D: Folder>(
     folder: &mut D,
     routes: &Ids,
     services: &Ids,
-) -> Result<Trips, FeedRefused> {
-    let mut table = open_needed(alloc, folder, FeedFile::Trips)?;
+) -> Result<Trips, FeedRefused>
+    ensures kept { (D.seen folder.new).contents ≡ (D.seen folder.old).contents }
+    ensures later { (D.seen folder.old).faults ≤ (D.seen folder.new).faults }
+    ensures unread { IfErr result (λ e. IsTrue (is_unread e) → Rose (D.seen folder.old).faults (D.seen folder.new).faults) }
+    ensures refused { IfErr result (λ e. Explains (D.seen folder.old).contents e) }
+{
     let mut rows = TripRows {
-        columns: trip_columns(&table)?,
         known: Known { routes, services },
         trips: no_trips(alloc),
         blocks: Ids::new(alloc),
     };
-    take_rows(alloc, &mut table, &mut rows)?;
+    take_needed(alloc, folder, FeedFile::Trips, &mut rows)?;
     Ok(rows.trips)
 }
 
@@ -80,22 +85,28 @@ fn no_trips(alloc: Global) -> Trips {
     }
 }
 
-fn trip_columns<F: Read + Drop>(table: &Table<F>) -> Result<TripColumns, FeedRefused> {
-    Ok(TripColumns {
-        id: table.needed(Column::TripId)?,
-        route: table.needed(Column::RouteId)?,
-        service: table.needed(Column::ServiceId)?,
-        block: table.place(Column::BlockId),
-    })
-}
-
 impl Rows for TripRows<'_> {
-    fn take_row<F: Read + Drop>(
+    type Columns = TripColumns;
+
+    const NEEDED: Column = Column::TripId;
+
+    fn columns<F: OpenedFile>(table: &Table<F>) -> Result<TripColumns, FeedRefused>
+        ensures { IfErr result (λ e. IsRowRefusal table.now.file e) }
+    {
+        Ok(TripColumns {
+            id: table.needed(Column::TripId)?,
+            route: table.needed(Column::RouteId)?,
+            service: table.needed(Column::ServiceId)?,
+            block: table.place(Column::BlockId),
+        })
+    }
+
+    fn take_row<F: OpenedFile>(
         &mut self,
         alloc: Global,
         table: &Table<F>,
+        columns: TripColumns,
     ) -> Result<(), FeedRefused> {
-        let columns = self.columns;
         add_trip(alloc, table, columns, self.known, &mut self.trips)?;
         if is_chained(alloc, table.field_of(columns.block), &mut self.blocks)? {
             self.trips.chained = self.trips.chained.saturating_add(1);
@@ -104,13 +115,15 @@ impl Rows for TripRows<'_> {
     }
 }
 
-fn add_trip<F: Read + Drop>(
+fn add_trip<F: OpenedFile>(
     alloc: Global,
     table: &Table<F>,
     columns: TripColumns,
     known: Known<'_>,
     trips: &mut Trips,
-) -> Result<(), FeedRefused> {
+) -> Result<(), FeedRefused>
+    ensures { IfErr result (λ e. IsRowRefusal table.now.file e) }
+{
     trips.ids.add_row(alloc, table, columns.id, Column::TripId)?;
     let id = owned(alloc, table.field(columns.id))?;
     put(
@@ -127,7 +140,9 @@ fn add_trip<F: Read + Drop>(
 }
 
 /// Whether the block stands in a row above; else it is noted.
-fn is_chained(alloc: Global, block: &str, blocks: &mut Ids) -> Result<bool, FeedRefused> {
+fn is_chained(alloc: Global, block: &str, blocks: &mut Ids) -> Result<bool, FeedRefused>
+    ensures { IfErr result (λ e. e ≡ FeedRefused.NoMemory) }
+{
     if block.is_empty() {
         return Ok(false);
     }

@@ -1,0 +1,13 @@
+use Rattle.ojp_feed_lines.specs.Refusals.{Explains}
+use Rattle.ojp_feed_lines.proofs.Explained.{passed_on, passed_read, row_is_read, row_is_table, table_explained}
+use Rattle.ojp_feed_lines.proofs.reading.read_feed.Goals as goal
+
+pub returns-in_err-operator-clause-unread : goal.returns-in_err-operator-clause-unread
+returns-in_err-operator-clause-unread g c =
+    passed_read c.from_residual-in_err-operator.result c.in_err-operator.field-0.0 _ c.from_residual-in_err-operator.ensures.1
+    (row_is_read _ _ c.in_err-operator.ensures)
+
+pub returns-in_err-operator-clause-refused : goal.returns-in_err-operator-clause-refused
+returns-in_err-operator-clause-refused g c =
+    passed_on c.from_residual-in_err-operator.result c.in_err-operator.field-0.0 (Explains (g.D.Folder.seen c.args.folder.now).contents)
+    c.from_residual-in_err-operator.ensures.1 (table_explained _ _ _ (row_is_table _ _ c.in_err-operator.ensures))

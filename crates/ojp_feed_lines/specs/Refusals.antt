@@ -1,0 +1,99 @@
+-- Why a feed is refused.
+use Rattle.std.specs.Prelude.{◌≡◌, IsTrue, Bool, true, false, ⊤, Option, codes}
+use Rattle.ojp_values.specs.Texts.{Text}
+use Rattle.ojp_feed_lines.specs.Folders.{Files, Lacks}
+use Rattle.ojp_feed_lines.specs.declared.files.FeedFile.{FeedFile}
+use Rattle.ojp_feed_lines.specs.declared.files.FeedFile.TheVariants as files
+use Rattle.ojp_feed_lines.specs.declared.refusals.FeedRefused.{FeedRefused}
+use Rattle.ojp_feed_lines.specs.declared.refusals.FeedRefused.TheVariants as refusals
+use Rattle.ojp_feed_lines.specs.declared.refusals.RowReason.{RowReason}
+use Rattle.ojp_feed_lines.specs.declared.refusals.RowReason.TheVariants as reasons
+
+-- the name in the folder
+abbrev pub name_of : FeedFile → Text
+name_of files.Agency = codes "agency.txt"
+name_of files.Stops = codes "stops.txt"
+name_of files.Routes = codes "routes.txt"
+name_of files.Calendar = codes "calendar.txt"
+name_of files.CalendarDates = codes "calendar_dates.txt"
+name_of files.Trips = codes "trips.txt"
+name_of files.Frequencies = codes "frequencies.txt"
+name_of files.Transfers = codes "transfers.txt"
+name_of files.StopTimes = codes "stop_times.txt"
+name_of files.Operator = codes "exchanges"
+
+-- a file could not be read
+abbrev pub is_unread : FeedRefused → Bool
+is_unread (refusals.Unread file) = true
+is_unread (refusals.At file line reason) = false
+is_unread refusals.NoMemory = false
+
+-- a file that must be there is not among the told ones; of the two calendars neither is
+abbrev pub IsMissed : Option Files → FeedFile → Type 0
+IsMissed contents files.Agency = Lacks contents files.Agency
+IsMissed contents files.Stops = Lacks contents files.Stops
+IsMissed contents files.Routes = Lacks contents files.Routes
+IsMissed contents files.Calendar = Lacks contents files.Calendar × Lacks contents files.CalendarDates
+IsMissed contents files.CalendarDates = ⊥
+IsMissed contents files.Trips = Lacks contents files.Trips
+IsMissed contents files.Frequencies = ⊥
+IsMissed contents files.Transfers = ⊥
+IsMissed contents files.StopTimes = Lacks contents files.StopTimes
+IsMissed contents files.Operator = ⊥
+
+-- a file is told as missing only where it is missed
+abbrev pub ExplainsAt : Option Files → FeedFile → RowReason → Type 0
+ExplainsAt contents file reasons.MissingFile = IsMissed contents file
+ExplainsAt contents file (reasons.MissingColumn column) = ⊤
+ExplainsAt contents file reasons.Width = ⊤
+ExplainsAt contents file reasons.NotText = ⊤
+ExplainsAt contents file (reasons.Value column) = ⊤
+ExplainsAt contents file reasons.TwoZones = ⊤
+ExplainsAt contents file (reasons.Doubled column) = ⊤
+ExplainsAt contents file (reasons.Unknown column) = ⊤
+ExplainsAt contents file reasons.LineForm = ⊤
+ExplainsAt contents file reasons.Limit = ⊤
+
+-- the told files explain why a line is refused
+abbrev pub Explains : Option Files → FeedRefused → Type 0
+Explains contents (refusals.Unread file) = ⊤
+Explains contents (refusals.At file line reason) = ExplainsAt contents file reason
+Explains contents refusals.NoMemory = ⊤
+
+-- the reason is not that a file is not there
+abbrev pub is_of_row : RowReason → Bool
+is_of_row reasons.MissingFile = false
+is_of_row (reasons.MissingColumn column) = true
+is_of_row reasons.Width = true
+is_of_row reasons.NotText = true
+is_of_row (reasons.Value column) = true
+is_of_row reasons.TwoZones = true
+is_of_row (reasons.Doubled column) = true
+is_of_row (reasons.Unknown column) = true
+is_of_row reasons.LineForm = true
+is_of_row reasons.Limit = true
+
+-- the refusal is of a row of this file, or want of memory
+abbrev pub IsRowRefusal : FeedFile → FeedRefused → Type 0
+IsRowRefusal file (refusals.Unread other) = ⊥
+IsRowRefusal file (refusals.At other line reason) = (other ≡ file) × IsTrue (is_of_row reason)
+IsRowRefusal file refusals.NoMemory = ⊤
+
+-- the refusal is of a row of this file, of a read of it that failed, or want of memory
+abbrev pub IsTableRefusal : FeedFile → FeedRefused → Type 0
+IsTableRefusal file (refusals.Unread other) = other ≡ file
+IsTableRefusal file (refusals.At other line reason) = (other ≡ file) × IsTrue (is_of_row reason)
+IsTableRefusal file refusals.NoMemory = ⊤
+
+-- a file that must be there by itself
+abbrev pub IsNeeded : FeedFile → Type 0
+IsNeeded files.Agency = ⊤
+IsNeeded files.Stops = ⊤
+IsNeeded files.Routes = ⊤
+IsNeeded files.Calendar = ⊥
+IsNeeded files.CalendarDates = ⊥
+IsNeeded files.Trips = ⊤
+IsNeeded files.Frequencies = ⊥
+IsNeeded files.Transfers = ⊥
+IsNeeded files.StopTimes = ⊤
+IsNeeded files.Operator = ⊥
