@@ -3,7 +3,7 @@ use Rattle.std.specs.Prelude.{ℕ}
 use Rattle.ojp_feed_rows.specs.declared.feed.Feed.{Feed}
 use Rattle.ojp_feed_rows.specs.declared.settings.Settings.{Settings}
 use Rattle.ojp_feed_plans.specs.Plans.{IsPlanOf}
-use Rattle.ojp_feed_plans.specs.Refusals.{AreRefused, AreTwoStops}
+use Rattle.ojp_feed_plans.specs.Refusals.{AreRefused, AreStopsRefused}
 use Rattle.ojp_feed_plans.specs.declared.plans.Plan.{Plan}
 use Rattle.ojp_feed_plans.specs.declared.refusals.PlanRefused.{PlanRefused}
 use Rattle.ojp_feed_plans.specs.declared.refusals.PlanRefused.TheVariants as plans
@@ -36,7 +36,7 @@ planned_refusal plans.NoMemory = refusals.NoMemory
 
 -- a feed has no plan for the cause that is named, and a line is refused where a timetable refuses it
 abbrev pub IsCause : Feed → Settings → ConvertRefused → Type 0
-IsCause feed settings (refusals.DoubledStops first second) = AreTwoStops feed first second
+IsCause feed settings (refusals.DoubledStops first second) = AreStopsRefused feed first second
 IsCause feed settings (refusals.DoubledTrips first second) = AreRefused feed (plans.DoubledTrips first second)
 IsCause feed settings refusals.TooManyJourneys = AreRefused feed plans.TooManyJourneys
 IsCause feed settings refusals.TooManyCalls = AreRefused feed plans.TooManyCalls

@@ -1,1 +1,3 @@
 pub mod Doubles
+pub mod Labels
+pub mod Repeats

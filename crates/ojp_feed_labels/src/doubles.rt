@@ -1,7 +1,9 @@
 //! Labels of many ids, each of its own.
 
-ghost use Rattle.std.specs.Prelude.{◌≡◌, ◌≤◌, ◌∷◌, ◌++◌, [], length, IfErr, IfOk, OnOk};
-ghost use Rattle.ojp_feed_labels.specs.Doubles.{AreTwoOf};
+ghost use Rattle.std.specs.Prelude.{◌≡◌, ◌≤◌, ◌∷◌, ◌++◌, [], ℕ, List as Items, map, nat_lt, IfErr, IfOk, OnOk};
+ghost use Rattle.ojp_feed_labels.specs.Doubles.{AreApart, AreLabelsRefused, AreShared, gives_way, holders, own_label, own_labels};
+ghost use Rattle.ojp_feed_labels.specs.Labels.{label_of};
+ghost use Rattle.ojp_values.specs.Texts.{Text};
 
 use crate::hashes::hashed;
 use crate::labels::label_of;
@@ -9,7 +11,7 @@ use indexmap::IndexMap;
 use ojp_values::{Label, List, NoMemory};
 use std::alloc::Global;
 
-/// Why ids get no labels: the hashed forms of two of them are one, or there is no memory. The numbers are those of the ids.
+/// Why ids get no labels: two of them have one label, or there is no memory. The numbers are those of the ids.
 #[derive(Clone, Copy, Debug, PartialEq, Eq)]
 pub enum LabelsRefused {
     Doubled { first: usize, second: usize },
@@ -17,20 +19,21 @@ pub enum LabelsRefused {
 }
 
 /// The labels of the ids in at most `most` bytes. Where two ids have one label, those of them that are not the label themselves
-/// take the hashed form.
+/// take the hashed form; where two have one label still, they are refused.
 pub fn own_labels(alloc: Global, ids: &[&str], most: usize) -> Result<List<Label>, LabelsRefused>
     requires room { 10 ≤ most }
     requires fits { most ≤ 32 }
-    ensures each { IfOk result (λ labels. length labels ≡ length ids.now) }
-    ensures refused { IfErr result (AreTwoOf (length ids.now)) }
+    ensures each { IfOk result (λ labels. labels ≡ own_labels most (map (λ id. id.now) ids.now)) }
+    ensures apart { IfOk result AreApart }
+    ensures refused { IfErr result (AreLabelsRefused most (map (λ id. id.now) ids.now)) }
 {
-    let Ok(marks) = doubled(alloc, ids, most) else {
+    let Ok(shared) = shared_by(alloc, ids, most) else {
         return Err(LabelsRefused::NoMemory);
     };
     let mut labels = List::new(alloc);
     let mut seen = IndexMap::new(alloc);
     for (second, id) in ids.iter().enumerate() {
-        let label = label_at(id.as_bytes(), most, is_marked(marks.as_slice(), second));
+        let label = label_among(&shared, id.as_bytes(), most);
         match seen.insert(label, second) {
             Ok(None) => {}
             Ok(Some(first)) => return Err(LabelsRefused::Doubled { first, second }),
@@ -43,6 +46,56 @@ pub fn own_labels(alloc: Global, ids: &[&str], most: usize) -> Result<List<Label
     Ok(labels)
 }
 
+// The label of one of the ids, where these labels are shared.
+#[tactic(auto, unfolding(crate::specs::Doubles::own_label))]
+fn label_among(shared: &IndexMap<Label, bool>, id: &[u8], most: usize) -> Label
+    requires room { 10 ≤ most }
+    requires fits { most ≤ 32 }
+    ensures { (ids : Items Text) → AreShared most ids shared.now → result ≡ own_label most ids id.now }
+{
+    let label = label_of(id, most);
+    if gives_way(shared, &label, id) {
+        hashed(id, most)
+    } else {
+        label
+    }
+}
+
+// Whether several ids have the label of this one, which is another text than the id.
+#[tactic(auto, unfolding(crate::specs::Doubles::holders))]
+fn gives_way(shared: &IndexMap<Label, bool>, label: &Label, id: &[u8]) -> bool
+    ensures { (most : ℕ) (ids : Items Text) → AreShared most ids shared.now → label.now ≡ label_of most id.now → result ≡ gives_way most ids id.now }
+{
+    is_shared(shared, label) && label.text() != id
+}
+
+// Whether several ids have the label.
+fn is_shared(shared: &IndexMap<Label, bool>, label: &Label) -> bool
+    ensures { (most : ℕ) (ids : Items Text) → AreShared most ids shared.now → result ≡ nat_lt 1 (holders most ids label.now) }
+{
+    match shared.get(label) {
+        Some(is_shared) => *is_shared,
+        None => false,
+    }
+}
+
+// The labels of the ids, each with whether several of them have it.
+fn shared_by(alloc: Global, ids: &[&str], most: usize) -> Result<IndexMap<Label, bool>, NoMemory>
+    requires room { 10 ≤ most }
+    requires fits { most ≤ 32 }
+    ensures { IfOk result (AreShared most (map (λ id. id.now) ids.now)) }
+{
+    let mut shared = IndexMap::new(alloc);
+    for id in ids {
+        let label = label_of(id.as_bytes(), most);
+        let is_there = shared.contains_key(&label);
+        let Ok(_) = shared.insert(label, is_there) else {
+            return Err(NoMemory);
+        };
+    }
+    Ok(shared)
+}
+
 // Adds the label.
 fn put(labels: &mut List<Label>, label: Label) -> Result<(), NoMemory>
     ensures { OnOk result (labels.new ≡ labels.old ++ label ∷ []) }
@@ -50,55 +103,5 @@ fn put(labels: &mut List<Label>, label: Label) -> Result<(), NoMemory>
     match labels.push(label) {
         Ok(()) => Ok(()),
         Err(_) => Err(NoMemory),
-    }
-}
-
-// The label of an id, in the hashed form where it is one of doubled ones that is not its id.
-fn label_at(id: &[u8], most: usize, is_doubled: bool) -> Label
-    requires room { 10 ≤ most }
-    requires fits { most ≤ 32 }
-{
-    let label = label_of(id, most);
-    if is_doubled && label.text() != id {
-        hashed(id, most)
-    } else {
-        label
-    }
-}
-
-// Whether the place is marked.
-fn is_marked(marks: &[bool], place: usize) -> bool {
-    match marks.get(place) {
-        Some(mark) => *mark,
-        None => false,
-    }
-}
-
-// For each id whether another one has its label.
-fn doubled(alloc: Global, ids: &[&str], most: usize) -> Result<Vec<bool>, NoMemory>
-    requires room { 10 ≤ most }
-    requires fits { most ≤ 32 }
-{
-    let Ok(mut marks) = vec![in alloc; false; ids.len()] else {
-        return Err(NoMemory);
-    };
-    let mut seen = IndexMap::new(alloc);
-    for (place, id) in ids.iter().enumerate() {
-        match seen.insert(label_of(id.as_bytes(), most), place) {
-            Ok(None) => {}
-            Ok(Some(first)) => {
-                mark(&mut marks, first);
-                mark(&mut marks, place);
-            }
-            Err(_) => return Err(NoMemory),
-        }
-    }
-    Ok(marks)
-}
-
-// Marks the place.
-fn mark(marks: &mut Vec<bool>, place: usize) {
-    if place < marks.len() {
-        marks[place] = true;
     }
 }

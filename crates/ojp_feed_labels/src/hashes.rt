@@ -1,9 +1,11 @@
 //! The hashed form of an id.
 
-ghost use Rattle.std.specs.Prelude.{◌≡◌, ◌≤◌, ◌<◌, ◌+◌, length, true};
+ghost use Rattle.std.specs.Prelude.{◌≡◌, ◌≤◌, ◌<◌, ◌+◌, ◌%◌, ◌∷◌, ◌++◌, [], length, true};
 ghost use Rattle.std.specs.List.{list_all};
+ghost use Rattle.sha2.specs.Sha256.{sha256};
 ghost use Rattle.arrayvec.specs.ArrayVec.{array_vec_len};
 ghost use Rattle.ojp_values.specs.Texts.{is_local_byte};
+ghost use Rattle.ojp_feed_labels.specs.Labels.{digit, digits, first_bits, hashed, local_byte};
 
 use arrayvec::ArrayVec;
 use ojp_values::Label;
@@ -14,7 +16,8 @@ use sha2::{Digest, Sha256};
 pub fn hashed(id: &[u8], most: usize) -> Label
     requires room { 10 ≤ most }
     requires fits { most ≤ 32 }
-    ensures { length result ≤ most }
+    ensures value { result ≡ hashed most id.now }
+    ensures short { length result ≤ most }
 {
     let mut text: ArrayVec<u8, 32> = ArrayVec::new();
     let front = id.len().min(most - 9);
@@ -33,6 +36,7 @@ pub fn hashed(id: &[u8], most: usize) -> Label
 fn push_local(text: &mut ArrayVec<u8, 32>, byte: u8)
     requires room { array_vec_len text.old < 32 }
     requires local { is_local_byte byte ≡ true }
+    ensures pushed { text.new.items ≡ text.old.items ++ byte ∷ [] }
     ensures local { list_all is_local_byte text.old.items ≡ true → list_all is_local_byte text.new.items ≡ true }
     ensures longer { array_vec_len text.new ≡ array_vec_len text.old + 1 }
 {
@@ -41,7 +45,8 @@ fn push_local(text: &mut ArrayVec<u8, 32>, byte: u8)
 
 // The byte where a label may have it, and else `_`.
 fn local_byte(byte: u8) -> u8
-    ensures { is_local_byte result ≡ true }
+    ensures value { result ≡ local_byte byte }
+    ensures local { is_local_byte result ≡ true }
 {
     if matches!(byte, b'A'..=b'Z' | b'a'..=b'z' | b'0'..=b'9' | b'.' | b'_' | b'-') {
         byte
@@ -51,8 +56,10 @@ fn local_byte(byte: u8) -> u8
 }
 
 // The number of the first 40 bits of the SHA-256.
+#[tactic(auto, unfolding(crate::specs::Labels::first_bits))]
 fn number_of(id: &[u8]) -> u64
-    ensures { result < 1_099_511_627_776 }
+    ensures value { result ≡ first_bits (sha256 id.now) }
+    ensures small { result < 1_099_511_627_776 }
 {
     let digest: [u8; 32] = Sha256::digest(id);
     let [a, b, c, d, e, ..] = digest;
@@ -63,7 +70,8 @@ fn number_of(id: &[u8]) -> u64
 
 // Adds the 8 base-32 digits of a number below 2^40, the highest first.
 fn push_digits(text: &mut ArrayVec<u8, 32>, number: u64)
-    requires { array_vec_len text.old + 8 ≤ 32 }
+    requires room { array_vec_len text.old + 8 ≤ 32 }
+    ensures pushed { text.new.items ≡ text.old.items ++ digits number }
     ensures local { list_all is_local_byte text.old.items ≡ true → list_all is_local_byte text.new.items ≡ true }
     ensures longer { array_vec_len text.new ≡ array_vec_len text.old + 8 }
 {
@@ -79,7 +87,8 @@ fn push_digits(text: &mut ArrayVec<u8, 32>, number: u64)
 
 // The last base-32 digit of the number: a to z, then 2 to 7.
 fn digit(number: u64) -> u8
-    ensures { is_local_byte result ≡ true }
+    ensures value { result ≡ digit (number % 32) }
+    ensures local { is_local_byte result ≡ true }
 {
     let value = (number % 32) as u8;
     if value < 26 {

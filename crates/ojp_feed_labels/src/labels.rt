@@ -1,8 +1,9 @@
 //! The label of an id.
 
-ghost use Rattle.std.specs.Prelude.{◌≡◌, ◌≤◌, length, IsTrue, IfSome};
+ghost use Rattle.std.specs.Prelude.{◌≡◌, ◌≤◌, Some, None, cond, length, IsTrue};
 ghost use Rattle.arrayvec.specs.ArrayVec.{array_vec_len};
 ghost use Rattle.ojp_values.specs.Texts.{is_label};
+ghost use Rattle.ojp_feed_labels.specs.Labels.{dotted, is_dotted, label_of};
 
 use crate::hashes::hashed;
 use arrayvec::ArrayVec;
@@ -10,9 +11,11 @@ use ojp_values::Label;
 
 /// The label of an id in at most `most` bytes: the id where it is one; the id with `.` for `:` where it has no `.` and that is
 /// one; else the hashed form.
+#[tactic(auto, unfolding(crate::specs::Labels::label_of))]
 pub fn label_of(id: &[u8], most: usize) -> Label
     requires room { 10 ≤ most }
     requires fits { most ≤ 32 }
+    ensures value { result ≡ label_of most id.now }
     ensures short { length result ≤ most }
     ensures stays { IsTrue (is_label id.now) → length id.now ≤ most → result ≡ id.now }
 {
@@ -31,7 +34,7 @@ pub fn label_of(id: &[u8], most: usize) -> Label
 /// The label that the id becomes with `.` for `:`, where it has no `.`.
 fn dotted(id: &[u8]) -> Option<Label>
     requires { length id.now ≤ 32 }
-    ensures { IfSome result (λ label. length label ≡ length id.now) }
+    ensures { result ≡ cond (is_dotted id.now) (Some (dotted id.now)) None }
 {
     if id.contains(&b'.') {
         return None;

@@ -1,13 +1,13 @@
 -- Trips by what becomes of them.
-use Rattle.std.proofs.Common.{◌≡◌, ℕ, suc, ◌+◌, ◌<◌, ◌≤◌, Bool, true, false, cond, List, [], ◌∷◌, ◌++◌, length, map, get_or, take, refl, sym, ◌∙◌, ap, subst, append-nil, zero-add, arith, Some}
-use Rattle.std.proofs.lemmas.List.{length-take-le, length_push, map-append, take_all}
+use Rattle.std.proofs.Common.{◌≡◌, ℕ, ◌+◌, ◌<◌, ◌≤◌, true, false, cond, List, [], ◌∷◌, ◌++◌, length, get_or, take, refl, sym, ◌∙◌, ap, subst, zero-add, arith, Some}
+use Rattle.std.proofs.lemmas.List.{length-take-le, length_push, map-append}
 use Rattle.std.proofs.lemmas.List.Sums.{fold_more}
 use Rattle.std.proofs.lemmas.List.Elements.{All-append, All-cons, All-nil}
 use Rattle.std.specs.List.{All, fold}
 use Rattle.std.specs.Prelude.{slice_get}
 use Rattle.ojp_feed_rows.specs.declared.feed.Feed.{Feed}
 use Rattle.ojp_feed_rows.specs.declared.trips.Trip.{Trip}
-use Rattle.ojp_feed_trips.specs.Fates.{IsReason, IsWeighed}
+use Rattle.ojp_feed_trips.specs.Fates.{IsWeighed}
 use Rattle.ojp_feed_trips.specs.declared.fates.Fate.{Fate}
 use Rattle.ojp_feed_trips.specs.declared.fates.Fate.TheVariants.{Written, UnknownRoute, UnknownService, UnknownStop, NoDay, DoubledSequence, NoTimeAtEnd, FallingTimes, PastEnd, TooFewCalls}
 use Rattle.ojp_feed_trips.specs.declared.weighing.Pattern.{Pattern}

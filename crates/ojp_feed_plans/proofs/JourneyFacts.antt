@@ -1,5 +1,5 @@
 -- Journeys that run on days of their trips.
-use Rattle.std.proofs.Common.{◌≡◌, ℕ, zero, suc, ◌+◌, ◌<◌, ◌≤◌, ◌&&◌, Bool, true, false, cond, List, [], ◌∷◌, length, get_or, Option, Some, None, refl, sym, ◌∙◌, ap, subst, arith, inl, inr, count_by}
+use Rattle.std.proofs.Common.{◌≡◌, ℕ, zero, suc, ◌<◌, ◌≤◌, ◌&&◌, Bool, true, cond, List, [], ◌∷◌, length, get_or, Option, Some, None, refl, sym, ◌∙◌, ap, subst, arith, inl, inr, count_by}
 use Rattle.std.specs.Prelude.{slice_get, unwrap_or}
 use Rattle.std.specs.List.{All, AllZip, Contains}
 use Rattle.std.proofs.lemmas.Bool.{and_parts, cases_Bool, cond-false, cond-true}
@@ -13,7 +13,7 @@ use Rattle.ojp_feed_rows.specs.declared.settings.Window.{Window}
 use Rattle.ojp_feed_rows.specs.declared.trips.Trip.{Trip}
 use Rattle.ojp_feed_trips.specs.Starts.{IsStart}
 use Rattle.ojp_feed_trips.specs.declared.weighing.Pattern.{Pattern}
-use Rattle.ojp_feed_plans.specs.Days.{AreBoxes, AreBoxesIn, boxes_at, boxes_of_service, is_within, runs}
+use Rattle.ojp_feed_plans.specs.Days.{AreBoxes, AreBoxesIn, boxes_of_service, is_within, runs}
 use Rattle.ojp_feed_plans.specs.Journeys.{IsJourneyOf, IsMade, IsMadeOf, IsOfPattern, IsOfStart, IsOfTrip, RunsOn}
 use Rattle.ojp_feed_plans.specs.declared.plans.PlannedJourney.{PlannedJourney}
 

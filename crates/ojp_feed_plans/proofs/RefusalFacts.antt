@@ -1,25 +1,25 @@
 -- Why there is no plan.
-use Rattle.std.proofs.Common.{◌≡◌, ℕ, ◌+◌, ◌<◌, ◌≤◌, cond, List, [], ◌∷◌, ◌++◌, Option, Some, length, get_or, inl, inr, sym, ◌∙◌, ap, subst, arith}
-use Rattle.std.specs.List.{All, AllPairs}
+use Rattle.std.proofs.Common.{◌≡◌, ℕ, ◌+◌, ◌<◌, cond, List, Some, length, get_or, inl, inr, sym, ◌∙◌, ap, subst, arith}
 use Rattle.std.specs.Prelude.{slice_get}
 use Rattle.std.specs.Map.{lookup}
 use Rattle.std.specs.Str.{bytes_eq}
 use Rattle.std.proofs.lemmas.Bool.{cases_Bool}
-use Rattle.std.proofs.lemmas.List.{get_or_default}
-use Rattle.std.proofs.lemmas.List.Elements.{All-nil, All-push, All-weaker}
-use Rattle.std.proofs.lemmas.List.Quantifiers.{all_pairs_push}
-use Rattle.std.proofs.lemmas.Option.{none-some, same_Some}
+use Rattle.std.proofs.lemmas.List.{length-map}
+use Rattle.std.proofs.lemmas.Option.{none-some, same_Some, slice_get-get_or, slice_get_within}
 use Rattle.std.proofs.lemmas.Slice.Eq.{bytes_eq-Decides}
 use Rattle.indexmap.specs.IndexMap.{IndexMap, IsEmpty, get, Updates}
 use Rattle.ojp_values.specs.Texts.{Text}
 use Rattle.ojp_calendars.specs.declared.day_box.DayBox.{DayBox}
+use Rattle.ojp_feed_labels.specs.Doubles.{AreDoubled}
 use Rattle.ojp_feed_rows.specs.declared.feed.Feed.{Feed}
 use Rattle.ojp_feed_trips.specs.declared.fates.Fate.{Fate}
 use Rattle.ojp_feed_trips.specs.declared.weighing.Pattern.{Pattern}
 use Rattle.ojp_feed_plans.specs.Days.{AreBoxesIn}
 use Rattle.ojp_feed_plans.specs.Journeys.{AreAllRuns, calls_from, runs_from}
+use Rattle.ojp_feed_plans.specs.Labels.{AreLabelled, stop_id, stop_ids, trip_ids}
 use Rattle.ojp_feed_plans.specs.Plans.{AreWeighed}
-use Rattle.ojp_feed_plans.specs.Refusals.{AreAlike, AreIdsRefused, AreJourneysRefused, AreLabelsRefused, ArePlacesRefused, AreRising, AreTwoStops, IsPast, IsPlanRefused, trip_number}
+use Rattle.ojp_feed_plans.specs.Refusals.{AreAlike, AreIdsRefused, AreJourneysRefused, AreLabelsRefused, ArePlacesRefused, AreTwoStops, AreTwoTrips, IsPast, IsPlanRefused, trip_number}
+use Rattle.ojp_feed_plans.specs.Served.{served_stops}
 use Rattle.ojp_feed_plans.specs.declared.plans.PlannedJourney.{PlannedJourney}
 use Rattle.ojp_feed_plans.specs.declared.refusals.PlanRefused.{PlanRefused}
 use Rattle.ojp_feed_plans.specs.declared.refusals.PlanRefused.TheVariants.{DoubledStops, DoubledTrips, TooManyJourneys, TooManyCalls, NoMemory}
@@ -31,20 +31,20 @@ refused_past feed boxes patterns TooManyJourneys why = why
 refused_past feed boxes patterns TooManyCalls why = why
 refused_past feed boxes patterns NoMemory why = tt
 
-pub refused_ids : (feed : Feed) (boxes : List (List DayBox)) (patterns : List Pattern) (refused : PlanRefused) → AreIdsRefused patterns refused → AreJourneysRefused feed boxes patterns refused
+pub refused_ids : (feed : Feed) (boxes : List (List DayBox)) (patterns : List Pattern) (refused : PlanRefused) → AreIdsRefused feed patterns refused → AreJourneysRefused feed boxes patterns refused
 refused_ids feed boxes patterns (DoubledTrips first second) why = inl why
 refused_ids feed boxes patterns (DoubledStops first second) why = absurd why
 refused_ids feed boxes patterns TooManyJourneys why = absurd why
 refused_ids feed boxes patterns TooManyCalls why = absurd why
 refused_ids feed boxes patterns NoMemory why = tt
 
-pub refused_alike : (feed : Feed) (boxes : List (List DayBox)) (patterns : List Pattern) (journeys : List PlannedJourney) (refused : PlanRefused) → AreAllRuns feed boxes patterns journeys → AreLabelsRefused patterns journeys refused
+pub refused_alike : (feed : Feed) (boxes : List (List DayBox)) (patterns : List Pattern) (journeys : List PlannedJourney) (refused : PlanRefused) → AreAllRuns feed boxes patterns journeys → AreLabelled feed boxes patterns journeys → AreLabelsRefused patterns journeys refused
     → AreJourneysRefused feed boxes patterns refused
-refused_alike feed boxes patterns journeys (DoubledTrips first second) all why = inr (record { journeys = journeys; all = all; alike = why })
-refused_alike feed boxes patterns journeys (DoubledStops first second) all why = absurd why
-refused_alike feed boxes patterns journeys TooManyJourneys all why = absurd why
-refused_alike feed boxes patterns journeys TooManyCalls all why = absurd why
-refused_alike feed boxes patterns journeys NoMemory all why = tt
+refused_alike feed boxes patterns journeys (DoubledTrips first second) all labelled why = inr (record { journeys = journeys; all = all; labelled = labelled; alike = why })
+refused_alike feed boxes patterns journeys (DoubledStops first second) all labelled why = absurd why
+refused_alike feed boxes patterns journeys TooManyJourneys all labelled why = absurd why
+refused_alike feed boxes patterns journeys TooManyCalls all labelled why = absurd why
+refused_alike feed boxes patterns journeys NoMemory all labelled why = tt
 
 pub refused_written : (feed : Feed) (places : List ℕ) (fates : List Fate) (patterns : List Pattern) (boxes : List (List DayBox)) (refused : PlanRefused) → AreWeighed feed places fates patterns → AreBoxesIn feed boxes
     → AreJourneysRefused feed boxes patterns refused → IsPlanRefused feed refused
@@ -54,52 +54,43 @@ refused_written feed places fates patterns boxes TooManyJourneys weighed boxed w
 refused_written feed places fates patterns boxes TooManyCalls weighed boxed why = record { places = places; fates = fates; patterns = patterns; boxes = boxes; weighed = weighed; boxed = boxed; why = why }
 refused_written feed places fates patterns boxes NoMemory weighed boxed why = tt
 
-pub refused_places : (feed : Feed) (refused : PlanRefused) → ArePlacesRefused feed refused → IsPlanRefused feed refused
-refused_places feed (DoubledTrips first second) why = absurd why
-refused_places feed (DoubledStops first second) why = why
-refused_places feed TooManyJourneys why = absurd why
-refused_places feed TooManyCalls why = absurd why
-refused_places feed NoMemory why = tt
+pub refused_places : (feed : Feed) (places : List ℕ) (fates : List Fate) (patterns : List Pattern) (refused : PlanRefused) → AreWeighed feed places fates patterns → ArePlacesRefused feed patterns refused → IsPlanRefused feed refused
+refused_places feed places fates patterns (DoubledTrips first second) weighed why = absurd why
+refused_places feed places fates patterns (DoubledStops first second) weighed why = record { places = places; fates = fates; patterns = patterns; weighed = weighed; two = why }
+refused_places feed places fates patterns TooManyJourneys weighed why = absurd why
+refused_places feed places fates patterns TooManyCalls weighed why = absurd why
+refused_places feed places fates patterns NoMemory weighed why = tt
 
--- ---- numbers that rise
+-- ---- stops and trips of one label
 
-pub rising_none : (limit : ℕ) → AreRising limit []
-rising_none limit = record { below = All-nil (λ (n : ℕ). n < limit); order = λ i j d h k. absurd (omega (arith, k)) }
+-- a number that is read at a place stands there
+number_read : (numbers : List ℕ) (i number : ℕ) → i < length numbers → number ≡ get_or numbers i i → slice_get numbers i ≡ Some number
+number_read numbers i number h is = slice_get-get_or numbers i i h ∙ ap Some (sym is)
 
--- one more, above all that are there
-pub rising_more : (limit number : ℕ) (numbers new : List ℕ) → number < limit → All (λ (n : ℕ). n < number) numbers → AreRising limit numbers → new ≡ numbers ++ number ∷ [] → AreRising limit new
-rising_more limit number numbers new h lower before step =
-    subst (λ (ns : List ℕ). AreRising limit ns) (sym step) (record {
-      below = All-push (λ (n : ℕ). n < limit) numbers number before.below h;
-      order = all_pairs_push (λ (one other : ℕ). one < other) numbers number before.order lower;
-    })
+-- two of the stops that the patterns serve have one label
+pub two_stops : (feed : Feed) (patterns : List Pattern) (numbers : List ℕ) (ids : List Text) (i j first second : ℕ) → numbers ≡ served_stops feed patterns → ids ≡ stop_ids feed numbers → AreDoubled 32 ids i j → first ≡ get_or numbers i i
+    → second ≡ get_or numbers j j → AreTwoStops feed patterns first second
+unfolding stop_ids
+two_stops feed patterns numbers ids i j first second served is doubled one two =
+    let h : j < length numbers =
+    omega (arith, slice_get_within ids j doubled.second_id doubled.second_at, ap length is, length-map numbers (λ (number : ℕ). stop_id (slice_get feed.stops.items number))) in
+    record {
+      one = i;
+      other = j;
+      doubled = subst (λ (all : List ℕ). AreDoubled 32 (stop_ids feed all) i j) served (subst (λ (all : List Text). AreDoubled 32 all i j) is doubled);
+      first_is = subst (λ (all : List ℕ). slice_get all i ≡ Some first) served (number_read numbers i first (omega (arith, doubled.order, h)) one);
+      second_is = subst (λ (all : List ℕ). slice_get all j ≡ Some second) served (number_read numbers j second h two);
+    }
 
--- they rise, and are below the number that is next
-pub record RiseTo (limit next : ℕ) (numbers : List ℕ) : Type 0 where
-  pub rising : AreRising limit numbers
-  pub lower : All (λ (n : ℕ). n < next) numbers
-
-pub to_none : (limit : ℕ) (numbers : List ℕ) → numbers ≡ [] → RiseTo limit 0 numbers
-to_none limit numbers is = subst (λ (ns : List ℕ). RiseTo limit 0 ns) (sym is) (record { rising = rising_none limit; lower = All-nil (λ (n : ℕ). n < 0) })
-
-pub to_skip : (limit next : ℕ) (numbers : List ℕ) → RiseTo limit next numbers → RiseTo limit (next + 1) numbers
-to_skip limit next numbers before = record { rising = before.rising; lower = All-weaker (λ (n : ℕ). n < next) (λ (n : ℕ). n < next + 1) (λ n h. omega (arith, h)) numbers before.lower }
-
-pub to_more : (limit next : ℕ) (numbers new : List ℕ) → next < limit → RiseTo limit next numbers → new ≡ numbers ++ next ∷ [] → RiseTo limit (next + 1) new
-to_more limit next numbers new h before step = record {
-  rising = rising_more limit next numbers new h before.lower before.rising step;
-  lower = subst (λ (ns : List ℕ). All (λ (n : ℕ). n < next + 1) ns) (sym step) (All-push (λ (n : ℕ). n < next + 1) numbers next (to_skip limit next numbers before).lower (omega arith));
+-- the trips of two of the patterns have one label
+pub two_trips : (feed : Feed) (patterns : List Pattern) (ids : List Text) (i j first second : ℕ) → ids ≡ trip_ids feed patterns → AreDoubled 21 ids i j → first ≡ trip_number patterns i → second ≡ trip_number patterns j → AreTwoTrips feed patterns first second
+two_trips feed patterns ids i j first second is doubled one two = record {
+  one = i;
+  other = j;
+  doubled = subst (λ (all : List Text). AreDoubled 21 all i j) is doubled;
+  first_is = sym one;
+  second_is = sym two;
 }
-
-pub to_rising : (limit next : ℕ) (numbers : List ℕ) → RiseTo limit next numbers → AreRising limit numbers
-to_rising limit next numbers before = before.rising
-
--- two of them are numbers of two different stops
-pub two_stops : (feed : Feed) (numbers : List ℕ) (i j first second : ℕ) → AreRising (length feed.stops.items) numbers → i < j → j < length numbers → first ≡ get_or numbers i i → second ≡ get_or numbers j j → AreTwoStops feed first second
-two_stops feed numbers i j first second rising h k one two =
-    let order = rising.order i j i h k in
-    let here : get_or numbers j j ≡ get_or numbers j i = get_or_default numbers j j i k in
-    (omega (arith, order, here, one, two), omega (arith, rising.below j j k, two))
 
 -- ---- labels that were seen
 

@@ -1,5 +1,5 @@
 -- The days of a service.
-use Rattle.std.specs.Prelude.{◌≡◌, ℕ, ◌+◌, ◌-◌, ◌<◌, ◌≤◌, ◌==◌, ◌&&◌, Bool, true, false, cond, nat_le, min, max, List, [], Option, Some, None, length, slice_get, slice_index_or, unwrap_or}
+use Rattle.std.specs.Prelude.{◌≡◌, ℕ, ◌+◌, ◌-◌, ◌<◌, ◌==◌, ◌&&◌, Bool, false, cond, nat_le, min, max, List, [], Option, Some, None, length, slice_get, slice_index_or, unwrap_or}
 use Rattle.std.specs.List.{AllZip, fold}
 use Rattle.ojp_calendars.specs.Days.{boxes_over, weekday}
 use Rattle.ojp_calendars.specs.declared.day_box.DayBox.{DayBox}

@@ -1,6 +1,6 @@
 -- The journeys of a plan, and the trips that they stem from.
-use Rattle.std.specs.Prelude.{◌≡◌, ℕ, ◌+◌, ◌*◌, Bool, true, ◌&&◌, List, [], ◌∷◌, ◌++◌, Option, Some, None, length, map, slice_get, slice_index_or}
-use Rattle.std.specs.List.{All, Contains, flat_map}
+use Rattle.std.specs.Prelude.{◌≡◌, ℕ, ◌+◌, ◌*◌, true, List, [], ◌∷◌, ◌++◌, Option, Some, None, length, map, slice_get}
+use Rattle.std.specs.List.{Contains, flat_map}
 use Rattle.ojp_calendars.specs.Days.{covers}
 use Rattle.ojp_calendars.specs.declared.day_box.DayBox.{DayBox}
 use Rattle.ojp_feed_rows.specs.declared.feed.Feed.{Feed}
@@ -10,6 +10,7 @@ use Rattle.ojp_feed_trips.specs.Halts.{IsPattern}
 use Rattle.ojp_feed_trips.specs.Starts.{IsStart, departures}
 use Rattle.ojp_feed_trips.specs.declared.weighing.Pattern.{Pattern}
 use Rattle.ojp_feed_plans.specs.Days.{AreBoxesIn, boxes_of_service, is_within, runs}
+use Rattle.ojp_feed_plans.specs.Labels.{AreLabelled}
 use Rattle.ojp_feed_plans.specs.declared.plans.PlannedJourney.{PlannedJourney}
 
 -- the pattern is one of the trip of its number, whose stops have these places
@@ -112,8 +113,10 @@ unfoldable pub AreAllRuns : Feed → List (List DayBox) → List Pattern → Lis
 AreAllRuns feed boxes patterns journeys = map run_of journeys ≡ runs_from feed boxes 0 patterns
 
 -- the journeys of the patterns are complete: there are boxes of which exactly one is over each day of the window on which a service
--- runs, and for each departure of a pattern's trip and each box of its service there is one journey, in this order, and no other
+-- runs, and for each departure of a pattern's trip and each box of its service there is one journey, in this order, and no other;
+-- and each has the label that its trip's id gives it
 pub record AreComplete (feed : Feed) (patterns : List Pattern) (journeys : List PlannedJourney) : Type 0 where
   pub boxes : List (List DayBox)
   pub boxed : AreBoxesIn feed boxes
   pub all : AreAllRuns feed boxes patterns journeys
+  pub labelled : AreLabelled feed boxes patterns journeys

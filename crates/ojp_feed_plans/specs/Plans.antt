@@ -1,5 +1,5 @@
 -- What a plan of a feed keeps.
-use Rattle.std.specs.Prelude.{◌≡◌, ℕ, ◌+◌, ◌<◌, Bool, true, false, cond, List, [], ◌∷◌, map, length}
+use Rattle.std.specs.Prelude.{◌≡◌, ℕ, ◌+◌, Bool, true, false, cond, List, [], ◌∷◌, map, length}
 use Rattle.std.specs.List.{All}
 use Rattle.ojp_feed_rows.specs.declared.feed.Feed.{Feed}
 use Rattle.ojp_feed_trips.specs.declared.fates.Fate.{Fate}

@@ -1,13 +1,15 @@
 -- Why a feed has no plan.
 use Rattle.std.specs.Prelude.{◌≡◌, ℕ, ◌<◌, ◌⊎◌, List, Option, Some, None, length, slice_get}
-use Rattle.std.specs.List.{All, AllPairs}
 use Rattle.ojp_calendars.specs.declared.day_box.DayBox.{DayBox}
+use Rattle.ojp_feed_labels.specs.Doubles.{AreDoubled}
 use Rattle.ojp_feed_rows.specs.declared.feed.Feed.{Feed}
 use Rattle.ojp_feed_trips.specs.declared.fates.Fate.{Fate}
 use Rattle.ojp_feed_trips.specs.declared.weighing.Pattern.{Pattern}
 use Rattle.ojp_feed_plans.specs.Days.{AreBoxesIn}
 use Rattle.ojp_feed_plans.specs.Journeys.{AreAllRuns, calls_from, runs_from}
+use Rattle.ojp_feed_plans.specs.Labels.{AreLabelled, stop_ids, trip_ids}
 use Rattle.ojp_feed_plans.specs.Plans.{AreWeighed}
+use Rattle.ojp_feed_plans.specs.Served.{served_stops}
 use Rattle.ojp_feed_plans.specs.declared.plans.PlannedJourney.{PlannedJourney}
 use Rattle.ojp_feed_plans.specs.declared.refusals.PlanRefused.{PlanRefused}
 use Rattle.ojp_feed_plans.specs.declared.refusals.PlanRefused.TheVariants.{DoubledStops, DoubledTrips, TooManyJourneys, TooManyCalls, NoMemory}
@@ -28,12 +30,11 @@ trip_or number (Some pattern) = pattern.trip
 abbrev pub trip_number : List Pattern → ℕ → ℕ
 trip_number patterns number = trip_or number (slice_get patterns number)
 
--- two different patterns are of these trips
-pub record AreTwoTrips (patterns : List Pattern) (first second : ℕ) : Type 0 where
+-- the trips of two patterns have one label among those of them all, and are these
+pub record AreTwoTrips (feed : Feed) (patterns : List Pattern) (first second : ℕ) : Type 0 where
   pub one : ℕ
   pub other : ℕ
-  pub order : one < other
-  pub below : other < length patterns
+  pub doubled : AreDoubled 21 (trip_ids feed patterns) one other
   pub first_is : trip_number patterns one ≡ first
   pub second_is : trip_number patterns other ≡ second
 
@@ -50,13 +51,13 @@ pub record AreAlike (patterns : List Pattern) (journeys : List PlannedJourney) (
   pub first_is : trip_number patterns one_journey.pattern ≡ first
   pub second_is : trip_number patterns other_journey.pattern ≡ second
 
--- no labels are given for the ids of two different trips
-abbrev pub AreIdsRefused : List Pattern → PlanRefused → Type 0
-AreIdsRefused patterns (DoubledTrips first second) = AreTwoTrips patterns first second
-AreIdsRefused patterns NoMemory = Unit {0}
-AreIdsRefused patterns (DoubledStops first second) = ⊥
-AreIdsRefused patterns TooManyJourneys = ⊥
-AreIdsRefused patterns TooManyCalls = ⊥
+-- no labels are given for the ids of trips: those of two have one
+abbrev pub AreIdsRefused : Feed → List Pattern → PlanRefused → Type 0
+AreIdsRefused feed patterns (DoubledTrips first second) = AreTwoTrips feed patterns first second
+AreIdsRefused feed patterns NoMemory = Unit {0}
+AreIdsRefused feed patterns (DoubledStops first second) = ⊥
+AreIdsRefused feed patterns TooManyJourneys = ⊥
+AreIdsRefused feed patterns TooManyCalls = ⊥
 
 -- two journeys have one label
 abbrev pub AreLabelsRefused : List Pattern → List PlannedJourney → PlanRefused → Type 0
@@ -70,12 +71,13 @@ AreLabelsRefused patterns journeys TooManyCalls = ⊥
 pub record AreTwoJourneys (feed : Feed) (boxes : List (List DayBox)) (patterns : List Pattern) (first second : ℕ) : Type 0 where
   pub journeys : List PlannedJourney
   pub all : AreAllRuns feed boxes patterns journeys
+  pub labelled : AreLabelled feed boxes patterns journeys
   pub alike : AreAlike patterns journeys first second
 
 -- the journeys of the patterns are refused, where the services of the feed have these boxes: two trips or two journeys have one
 -- label, or the journeys or their calls are too many
 abbrev pub AreJourneysRefused : Feed → List (List DayBox) → List Pattern → PlanRefused → Type 0
-AreJourneysRefused feed boxes patterns (DoubledTrips first second) = AreTwoTrips patterns first second ⊎ AreTwoJourneys feed boxes patterns first second
+AreJourneysRefused feed boxes patterns (DoubledTrips first second) = AreTwoTrips feed patterns first second ⊎ AreTwoJourneys feed boxes patterns first second
 AreJourneysRefused feed boxes patterns refused = IsPast (length (runs_from feed boxes 0 patterns)) (calls_from feed boxes 0 patterns) refused
 
 -- the journeys of the trips that are written are refused
@@ -88,25 +90,32 @@ pub record AreRefused (feed : Feed) (refused : PlanRefused) : Type 0 where
   pub boxed : AreBoxesIn feed boxes
   pub why : AreJourneysRefused feed boxes patterns refused
 
--- two different stops of the feed, by their numbers
-abbrev pub AreTwoStops : Feed → ℕ → ℕ → Type 0
-AreTwoStops feed first second = (first < second) × (second < length feed.stops.items)
+-- two of the stops that the patterns serve, by their numbers, have one label among those of them all
+pub record AreTwoStops (feed : Feed) (patterns : List Pattern) (first second : ℕ) : Type 0 where
+  pub one : ℕ
+  pub other : ℕ
+  pub doubled : AreDoubled 32 (stop_ids feed (served_stops feed patterns)) one other
+  pub first_is : slice_get (served_stops feed patterns) one ≡ Some first
+  pub second_is : slice_get (served_stops feed patterns) other ≡ Some second
+
+-- two of the stops that the trips that are written serve
+pub record AreStopsRefused (feed : Feed) (first second : ℕ) : Type 0 where
+  pub places : List ℕ
+  pub fates : List Fate
+  pub patterns : List Pattern
+  pub weighed : AreWeighed feed places fates patterns
+  pub two : AreTwoStops feed patterns first second
 
 -- a feed has no plan: two of its stops have one label, or the journeys of its trips are refused
 abbrev pub IsPlanRefused : Feed → PlanRefused → Type 0
-IsPlanRefused feed (DoubledStops first second) = AreTwoStops feed first second
+IsPlanRefused feed (DoubledStops first second) = AreStopsRefused feed first second
 IsPlanRefused feed NoMemory = Unit {0}
 IsPlanRefused feed refused = AreRefused feed refused
 
--- the stops at the places have no labels: two of them would have one
-abbrev pub ArePlacesRefused : Feed → PlanRefused → Type 0
-ArePlacesRefused feed (DoubledStops first second) = AreTwoStops feed first second
-ArePlacesRefused feed NoMemory = Unit {0}
-ArePlacesRefused feed (DoubledTrips first second) = ⊥
-ArePlacesRefused feed TooManyJourneys = ⊥
-ArePlacesRefused feed TooManyCalls = ⊥
-
--- the numbers rise and are below the limit
-pub record AreRising (limit : ℕ) (numbers : List ℕ) : Type 0 where
-  pub below : All (λ (number : ℕ). number < limit) numbers
-  pub order : AllPairs (λ (one other : ℕ). one < other) numbers
+-- the stops that the patterns serve have no labels: two of them would have one
+abbrev pub ArePlacesRefused : Feed → List Pattern → PlanRefused → Type 0
+ArePlacesRefused feed patterns (DoubledStops first second) = AreTwoStops feed patterns first second
+ArePlacesRefused feed patterns NoMemory = Unit {0}
+ArePlacesRefused feed patterns (DoubledTrips first second) = ⊥
+ArePlacesRefused feed patterns TooManyJourneys = ⊥
+ArePlacesRefused feed patterns TooManyCalls = ⊥

@@ -1,6 +1,7 @@
 //! Vectors that answer want of memory.
 
-ghost use Rattle.std.specs.Prelude.{◌≡◌, ◌∷◌, ◌++◌, [], OnOk};
+ghost use Rattle.std.specs.Prelude.{◌≡◌, ◌<◌, ◌==◌, ◌||◌, ℕ, ◌∷◌, ◌++◌, [], false, length, IfOk, OnOk};
+ghost use Rattle.ojp_feed_plans.specs.Served.{is_marked};
 
 use ojp_values::NoMemory;
 use std::alloc::Global;
@@ -16,7 +17,10 @@ pub fn put<T: Drop>(items: &mut Vec<T>, item: T) -> Result<(), NoMemory>
 }
 
 /// So many times `false`.
-pub fn unmarked(alloc: Global, count: usize) -> Result<Vec<bool>, NoMemory> {
+pub fn unmarked(alloc: Global, count: usize) -> Result<Vec<bool>, NoMemory>
+    ensures long { IfOk result (λ marks. length marks.items ≡ count) }
+    ensures none { IfOk result (λ marks. (k : ℕ) → is_marked marks.items k ≡ false) }
+{
     match vec![in alloc; false; count] {
         Ok(marks) => Ok(marks),
         Err(_) => Err(NoMemory),
@@ -32,14 +36,19 @@ pub fn unset(alloc: Global, count: usize) -> Result<Vec<Option<u32>>, NoMemory> 
 }
 
 /// Marks the place, if there is one.
-pub fn mark(marks: &mut Vec<bool>, place: usize) {
+pub fn mark(marks: &mut Vec<bool>, place: usize)
+    ensures long { length marks.new.items ≡ length marks.old.items }
+    ensures each { (k : ℕ) → k < length marks.old.items → is_marked marks.new.items k ≡ (is_marked marks.old.items k || place == k) }
+{
     if place < marks.len() {
         marks[place] = true;
     }
 }
 
 /// Whether there is such a place and it is marked.
-pub fn is_marked(marks: &[bool], place: usize) -> bool {
+pub fn is_marked(marks: &[bool], place: usize) -> bool
+    ensures { result ≡ is_marked marks.now place }
+{
     match marks.get(place) {
         Some(mark) => *mark,
         None => false,

@@ -1,7 +1,10 @@
 //! The places of a plan.
 
-ghost use Rattle.std.specs.Prelude.{◌≡◌, length, slice_index_or, IfErr};
-ghost use Rattle.ojp_feed_plans.specs.Refusals.{ArePlacesRefused, AreRising};
+ghost use Rattle.std.specs.Prelude.{◌≡◌, List, map, slice_get, slice_index_or, IfErr, IfOk};
+ghost use Rattle.ojp_feed_plans.specs.Labels.{stop_id, stop_ids};
+ghost use Rattle.ojp_feed_plans.specs.Refusals.{ArePlacesRefused};
+ghost use Rattle.ojp_feed_plans.specs.Served.{served_stops};
+ghost use Rattle.ojp_feed_trips.specs.declared.weighing.Pattern.{Pattern};
 
 use crate::changes::{Changes, changes_of};
 use crate::memory::{is_marked, put};
@@ -35,7 +38,7 @@ pub fn placed_of(
     places: &Places,
     patterns: &[Pattern],
 ) -> Result<Placing, PlanRefused>
-    ensures { IfErr result (ArePlacesRefused feed.now) }
+    ensures { IfErr result (ArePlacesRefused feed.now patterns.now) }
 {
     let stops = feed.stops.len();
     let count = stops.saturating_add(places.points.len());
@@ -186,19 +189,11 @@ impl Placing {
 
 // The labels of the stops of these numbers.
 fn stop_labels(alloc: Global, feed: &Feed, numbers: &[usize]) -> Result<Vec<Label>, PlanRefused>
-    requires { AreRising (length feed.now.stops.items) numbers.now }
-    ensures { IfErr result (ArePlacesRefused feed.now) }
+    ensures { (patterns : List Pattern) → numbers.now ≡ served_stops feed.now patterns → IfErr result (ArePlacesRefused feed.now patterns) }
 {
-    let mut ids = Vec::new(alloc);
-    for number in numbers {
-        let id = match feed.stops.as_slice().get(*number) {
-            Some(row) => row.id.as_str(),
-            None => "",
-        };
-        if ids.push(id).is_err() {
-            return Err(PlanRefused::NoMemory);
-        }
-    }
+    let Ok(ids) = ids_of(alloc, feed, numbers) else {
+        return Err(PlanRefused::NoMemory);
+    };
     match own_labels(alloc, ids.as_slice(), 32) {
         Ok(labels) => Ok(labels.into_items()),
         Err(LabelsRefused::NoMemory) => Err(PlanRefused::NoMemory),
@@ -206,6 +201,27 @@ fn stop_labels(alloc: Global, feed: &Feed, numbers: &[usize]) -> Result<Vec<Labe
             first: number_at(numbers, first),
             second: number_at(numbers, second),
         }),
+    }
+}
+
+// The ids of the stops of these numbers.
+fn ids_of<'a>(alloc: Global, feed: &'a Feed, numbers: &[usize]) -> Result<Vec<&'a str>, NoMemory>
+    ensures { IfOk result (λ ids. map (λ id. id.now) ids.items ≡ stop_ids feed.now numbers.now) }
+{
+    let mut ids = Vec::new(alloc);
+    for number in numbers {
+        put(&mut ids, id_of(feed, *number))?;
+    }
+    Ok(ids)
+}
+
+// The id of the stop of that number.
+fn id_of(feed: &Feed, number: usize) -> &str
+    ensures { result.now ≡ stop_id (slice_get feed.now.stops.items number) }
+{
+    match feed.stops.as_slice().get(number) {
+        Some(row) => row.id.as_str(),
+        None => "",
     }
 }
 

@@ -1,7 +1,7 @@
 //! Why a feed has no plan.
 
-/// Why a feed has no plan: two stops, or two trips, whose ids give one label, by their numbers in the feed, and one trip twice
-/// where two of its own journeys have one label; too many journeys or calls for a timetable; or there is no memory.
+/// Why a feed has no plan: two stops, or two trips, of one label, by their numbers in the feed, or two trips with journeys of one
+/// label, one trip twice where both are its own; too many journeys or calls for a timetable; or there is no memory.
 #[derive(Clone, Copy, Debug, PartialEq, Eq)]
 pub enum PlanRefused {
     DoubledStops { first: usize, second: usize },

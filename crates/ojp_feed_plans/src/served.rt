@@ -1,7 +1,8 @@
 //! Which stops and places are served.
 
-ghost use Rattle.std.specs.Prelude.{IfOk};
-ghost use Rattle.ojp_feed_plans.specs.Refusals.{AreRising};
+ghost use Rattle.std.specs.Prelude.{◌≡◌, ◌<◌, ◌||◌, ◌∷◌, ◌++◌, [], ℕ, cond, length, IfOk, OnOk};
+ghost use Rattle.std.specs.List.{filter, range_with_len};
+ghost use Rattle.ojp_feed_plans.specs.Served.{AreServed, halts_at, is_marked};
 
 use crate::memory::{is_marked, mark, put, unmarked};
 use ojp_feed_rows::{Feed, LocationKind, Trip};
@@ -25,28 +26,69 @@ pub fn served_by(
     patterns: &[Pattern],
     places: &[usize],
     count: usize,
-) -> Result<Served, NoMemory> {
+) -> Result<Served, NoMemory>
+    ensures { IfOk result (λ served. AreServed patterns.now count served.places.items) }
+{
+    let stops = stops_served(alloc, feed, patterns)?;
+    let several = several_of(alloc, stops.as_slice(), places, count)?;
+    let at = places_served(alloc, patterns, count)?;
+    Ok(Served {
+        stops,
+        places: at,
+        several,
+    })
+}
+
+// The places, of so many, at which the patterns halt.
+fn places_served(alloc: Global, patterns: &[Pattern], count: usize) -> Result<Vec<bool>, NoMemory>
+    ensures { IfOk result (λ marks. AreServed patterns.now count marks.items) }
+{
+    let mut marks = unmarked(alloc, count)?;
+    for pattern in patterns {
+        mark_places(&mut marks, pattern.halts.as_slice());
+    }
+    Ok(marks)
+}
+
+// Marks the places of the halts.
+fn mark_places(marks: &mut Vec<bool>, halts: &[Halt])
+    ensures long { length marks.new.items ≡ length marks.old.items }
+    ensures each { (place : ℕ) → place < length marks.old.items → is_marked marks.new.items place ≡ (is_marked marks.old.items place || halts_at halts.now place) }
+{
+    for halt in halts {
+        mark(marks, halt.place);
+    }
+}
+
+// The stops that the halts of the patterns have rows of.
+fn stops_served(alloc: Global, feed: &Feed, patterns: &[Pattern]) -> Result<Vec<bool>, NoMemory> {
     let mut stops = unmarked(alloc, feed.stops.len())?;
     for pattern in patterns {
         if let Some(trip) = feed.trips.as_slice().get(pattern.trip) {
             mark_stops(&mut stops, trip, pattern.halts.as_slice());
         }
     }
-    let mut at = unmarked(alloc, count)?;
+    Ok(stops)
+}
+
+// The places, of so many, with several stops that are marked.
+fn several_of(
+    alloc: Global,
+    stops: &[bool],
+    places: &[usize],
+    count: usize,
+) -> Result<Vec<bool>, NoMemory> {
+    let mut found = unmarked(alloc, count)?;
     let mut several = unmarked(alloc, count)?;
     for (stop, place) in places.iter().enumerate() {
-        if is_marked(stops.as_slice(), stop) {
-            if is_marked(at.as_slice(), *place) {
+        if is_marked(stops, stop) {
+            if is_marked(found.as_slice(), *place) {
                 mark(&mut several, *place);
             }
-            mark(&mut at, *place);
+            mark(&mut found, *place);
         }
     }
-    Ok(Served {
-        stops,
-        places: at,
-        several,
-    })
+    Ok(several)
 }
 
 // Marks the stops of the halts.
@@ -77,15 +119,24 @@ pub fn unserved(feed: &Feed, served: &Served) -> u64 {
 }
 
 /// The numbers of the served places below a limit, rising.
-#[tactic(auto, using(crate::proofs::RefusalFacts::to_more, crate::proofs::RefusalFacts::to_none, crate::proofs::RefusalFacts::to_rising, crate::proofs::RefusalFacts::to_skip))]
 pub fn served_below(alloc: Global, served: &Served, limit: usize) -> Result<Vec<usize>, NoMemory>
-    ensures { IfOk result (λ numbers. AreRising limit numbers.items) }
+    ensures { IfOk result (λ numbers. numbers.items ≡ filter (is_marked served.now.places.items) (range_with_len 0 limit)) }
 {
     let mut numbers = Vec::new(alloc);
     for number in 0..limit {
-        if is_marked(served.places.as_slice(), number) {
-            put(&mut numbers, number)?;
-        }
+        let is_served = is_marked(served.places.as_slice(), number);
+        put_if(&mut numbers, number, is_served)?;
     }
     Ok(numbers)
+}
+
+// Adds the number, where it is wanted.
+fn put_if(numbers: &mut Vec<usize>, number: usize, is_wanted: bool) -> Result<(), NoMemory>
+    ensures { OnOk result (numbers.new.items ≡ numbers.old.items ++ cond is_wanted (number ∷ []) []) }
+{
+    if is_wanted {
+        put(numbers, number)
+    } else {
+        Ok(())
+    }
 }

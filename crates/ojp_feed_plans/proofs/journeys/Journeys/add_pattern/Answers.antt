@@ -1,11 +1,13 @@
 use Rattle.std.proofs.Common.{◌≡◌, ℕ, ◌+◌, ◌*◌, ◌++◌, List, Option, Some, None, Vec, Global, length, map, sym, ◌∙◌, ap, subst, append-nil, arith}
 use Rattle.std.proofs.lemmas.Result.{IfErr-weaker, on_ok_weaker}
 use Rattle.std.specs.Prelude.{slice_get}
+use Rattle.std.specs.String.{string_bytes}
+use Rattle.ojp_values.specs.Texts.{Text}
 use Rattle.ojp_calendars.specs.declared.day_box.DayBox.{DayBox}
 use Rattle.ojp_feed_rows.specs.declared.trips.Trip.{Trip}
 use Rattle.ojp_feed_trips.specs.Starts.{departures}
-use Rattle.ojp_feed_plans.specs.Days.{boxes_of_service}
 use Rattle.ojp_feed_plans.specs.Journeys.{IsOfPattern, IsOfTrip, Run, run_of, runs_at, runs_of_starts, runs_of_trip}
+use Rattle.ojp_feed_plans.specs.Labels.{is_key, labels_of, labels_of_trip, repeats, stem_labels}
 use Rattle.ojp_feed_plans.specs.Refusals.{IsPast}
 use Rattle.ojp_feed_plans.proofs.AddingFacts.{adds_weaker}
 use Rattle.ojp_feed_plans.proofs.journeys.Journeys.add_pattern.Goals as goal
@@ -16,6 +18,13 @@ returns-in_default-clause-all c =
     let none : slice_get c.args.feed.now.trips.items c.args.pattern.now.trip ≡ None = sym c.in_default.ensures in
     let old = map run_of c.args.self.now.journeys.items in
     sym (ap (λ (t : Option Trip). old ++ runs_of_trip all c.args.number t) none ∙ append-nil old)
+
+pub returns-in_default-clause-labels : goal.returns-in_default-clause-labels
+returns-in_default-clause-labels c =
+    let all = map (λ (v : Vec DayBox Global). v.items) c.args.boxes.now in
+    let none : slice_get c.args.feed.now.trips.items c.args.pattern.now.trip ≡ None = sym c.in_default.ensures in
+    let old = labels_of c.args.self.now.journeys.items in
+    sym (ap (λ (t : Option Trip). old ++ labels_of_trip (is_key c.args.self.now.trips) all c.args.label t) none ∙ append-nil old)
 
 pub returns-in_default-clause-calls : goal.returns-in_default-clause-calls
 returns-in_default-clause-calls c =
@@ -52,6 +61,17 @@ returns-clause-all c =
     let runs : runs_of_starts number days (departures trip) ≡ runs_at feed all number pattern =
     ap (λ (bs : List DayBox). runs_of_starts number bs (departures trip)) c.boxes_of_trip-days.ensures ∙ sym (ap (runs_of_trip all number) at) in
     on_ok_weaker c.add_trip.result (λ made. made ∙ ap (λ (xs : List Run). map run_of c.args.self.now.journeys.items ++ xs) runs) c.add_trip.ensures.all
+
+pub returns-clause-labels : goal.returns-clause-labels
+returns-clause-labels c =
+    let pattern = c.args.pattern.now in
+    let trip = c.in-Some.trip.now in
+    let all = map (λ (v : Vec DayBox Global). v.items) c.args.boxes.now in
+    let taken = is_key c.args.self.now.trips in
+    let label = c.args.label in
+    let at : slice_get c.args.feed.now.trips.items pattern.trip ≡ Some trip = sym c.in-Some.ensures in
+    let labels = ap (λ (bs : List DayBox). stem_labels taken (string_bytes trip.id) (repeats trip) (length bs) label (departures trip)) c.boxes_of_trip-days.ensures ∙ sym (ap (labels_of_trip taken all label) at) in
+    on_ok_weaker c.add_trip.result (λ made. made ∙ ap (λ (xs : List Text). labels_of c.args.self.now.journeys.items ++ xs) labels) c.add_trip.ensures.labels
 
 pub returns-clause-calls : goal.returns-clause-calls
 returns-clause-calls c =
