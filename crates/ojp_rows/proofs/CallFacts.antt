@@ -1,26 +1,13 @@
 -- What makes links ready for a search, and a new search able to turn over them.
-use Rattle.std.proofs.Common.{◌≡◌, [], List, Ok, Result, refl, subst, sym}
-use Rattle.std.specs.Prelude.{◌↔◌}
-use Rattle.ojp_values.specs.Lists.{Among}
-use Rattle.ojp_values.specs.Texts.{Text}
+use Rattle.std.proofs.Common.{List, subst, sym}
 use Rattle.ojp_values.specs.declared.asks.TripAsk.{TripAsk}
 use Rattle.ojp_exchange.specs.Book.{Book}
-use Rattle.ojp_links.specs.Seen.{Fixed, View, codes_of}
+use Rattle.ojp_links.specs.Seen.{View, codes_of}
 use Rattle.ojp_turns.specs.declared.kept.Kept.{Kept}
 use Rattle.ojp_turns.specs.declared.search.Search.{Search}
 use Rattle.ojp_turns.specs.Held.{AreLive}
 use Rattle.ojp_turns.specs.Searches.{CanTurn, IsNewFor, asked_for}
-use Rattle.ojp_gateway.specs.declared.learning.LearnRefused.{LearnRefused}
-use Rattle.ojp_gateway.specs.Learning.{IsLearned, Learns, LearnsAs}
 use Rattle.ojp_rows.specs.Ready.{IsReady}
-
-pub learned_ready : (book : Book) (old new : View) (result : Result Book LearnRefused) → result ≡ Ok book → Learns old new result → IsReady book new
-learned_ready book old new result is learns =
-    let l : IsLearned old book = subst (λ (r : Result Book LearnRefused). LearnsAs old new r) is learns.learns in
-    record {
-      regions = subst (λ (f : Fixed). (code : Text) → Among code book.codes ↔ Among code (codes_of f)) (sym learns.keeps.fixed) l.regions;
-      none_live = learns.none_live;
-    }
 
 -- a new search has nothing live, as the links
 pub new_turns : (book : Book) (ask : TripAsk) (s : Search) (v : View) → IsNewFor book ask s → IsReady book v → CanTurn book s v

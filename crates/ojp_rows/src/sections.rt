@@ -1,6 +1,8 @@
 //! The sections of rows.
 
-use crate::{boards, calendars, calls, feeds, links, parts, region, scans, sockets};
+use crate::{
+    HEADING, boards, calendars, calls, feeds, hostile, links, parts, region, scans, sockets,
+};
 use std::net::Net;
 use std::random::RandomSource;
 use std::rt::{Clock, Files};
@@ -23,6 +25,7 @@ pub(crate) enum Section {
     Calendars,
     Feeds,
     Calls,
+    Hostile,
 }
 
 impl Section {
@@ -38,14 +41,16 @@ impl Section {
             "calendars" => Some(Section::Calendars),
             "feeds" => Some(Section::Feeds),
             "calls" => Some(Section::Calls),
+            "hostile" => Some(Section::Hostile),
             _ => None,
         }
     }
 
-    /// What stands between two rows. Those of sockets, parts and calendars are lines.
+    /// What stands between two rows. Those of sockets, parts and calendars are lines, and `hostile` is one row.
     pub fn row_end(self) -> &'static str {
         match self {
             Section::Sockets | Section::Parts | Section::Calendars => "\n",
+            Section::Hostile => HEADING,
             _ => "====\n",
         }
     }
@@ -62,6 +67,7 @@ impl Section {
             Section::Calendars => calendars::tell(rt, row),
             Section::Feeds => feeds::tell(rt, row),
             Section::Calls => calls::tell(rt, row),
+            Section::Hostile => hostile::tell(rt, row),
         }
     }
 }

@@ -4,13 +4,11 @@ ghost use Rattle.std.specs.Prelude.{IfSome};
 ghost use Rattle.ojp_links.specs.Seen.{NoneLive};
 ghost use Rattle.ojp_links_mem.specs.Memory.{links_of};
 ghost use Rattle.ojp_searching.specs.Futures.{CanPoll};
-ghost use Rattle.ojp_rows.specs.Ready.{IsReady};
 
-use crate::tables::alone;
+use crate::gates::learned;
+use crate::tables::distinct_tables;
 use crate::words::{ask_of, text_of};
 use futures::executor::block_on;
-use ojp_exchange::Book;
-use ojp_gateway::learn_paced;
 use ojp_links_mem::MemLinks;
 use ojp_searching::{Searching, Sought};
 use ojp_timetable::Timetable;
@@ -63,7 +61,7 @@ fn later(instant: Instant) -> Option<Instant> {
 fn links_to(alloc: Global, table: &str) -> Option<MemLinks>
     ensures { IfSome result (λ links. NoneLive (links_of links)) }
 {
-    let tables = alone(alloc, table)?;
+    let tables = distinct_tables(alloc, table)?;
     match MemLinks::new(alloc, tables, 3, 0) {
         Ok(links) => Some(links),
         Err(_) => None,
@@ -82,17 +80,6 @@ fn searching_of(alloc: Global, links: MemLinks, ask: &TripAsk) -> Option<Searchi
     }
     match Search::new(alloc, &book, ask) {
         Ok(search) => Some(Searching::new(alloc, search, book, links)),
-        Err(_) => None,
-    }
-}
-
-/// The book of the regions.
-fn learned(alloc: Global, links: &mut MemLinks) -> Option<Book>
-    requires { NoneLive (links_of links.old) }
-    ensures { IfSome result (λ book. IsReady book (links_of links.new)) }
-{
-    match learn_paced(alloc, links) {
-        Ok(book) => Some(book),
         Err(_) => None,
     }
 }

@@ -1,2 +1,0 @@
-pub mod CodeFacts
-pub mod ReadyFacts
