@@ -1,2 +1,5 @@
 pub mod Explained
 pub mod Named
+pub mod PlaceFacts
+pub mod ReadFacts
+pub mod StandFacts

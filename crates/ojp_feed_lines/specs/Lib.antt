@@ -1,5 +1,9 @@
+pub mod Columns
 pub mod Fields
 pub mod Folders
 pub mod Lines
 pub mod MemFolders
+pub mod Places
 pub mod Refusals
+pub mod Rows
+pub mod Tables

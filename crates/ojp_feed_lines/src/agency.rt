@@ -1,8 +1,12 @@
 //! `agency.txt`: the zone of the feed.
 
-ghost use Rattle.std.specs.Prelude.{◌≡◌, ◌≤◌, IfErr, IsTrue};
+ghost use Rattle.std.specs.Prelude.{◌≡◌, ◌≤◌, ◌↔◌, IfErr, IfOk, IsTrue, Some, string_bytes};
 ghost use Rattle.ojp_outside.specs.Causes.{Rose};
 ghost use Rattle.ojp_feed_lines.specs.Refusals.{Explains, is_unread};
+ghost use Rattle.ojp_feed_lines.specs.Columns.{column_name};
+ghost use Rattle.ojp_feed_lines.specs.declared.columns.Column.{Column};
+ghost use Rattle.ojp_feed_lines.specs.Places.{HoldsZone, IsZoneOf};
+ghost use Rattle.ojp_feed_lines.specs.Rows.{IsPlace, OfFile};
 
 use crate::columns::Column;
 use crate::files::FeedFile;
@@ -25,6 +29,7 @@ pub(crate) fn read_zone_name<D: Folder>(
     alloc: Global,
     folder: &mut D,
 ) -> Result<String, FeedRefused>
+    ensures told { IfOk result (λ zone. OfFile (D.seen folder.old).contents FeedFile.Agency (λ bytes. IsZoneOf bytes (string_bytes zone))) }
     ensures kept { (D.seen folder.new).contents ≡ (D.seen folder.old).contents }
     ensures later { (D.seen folder.old).faults ≤ (D.seen folder.new).faults }
     ensures unread { IfErr result (λ e. IsTrue (is_unread e) → Rose (D.seen folder.old).faults (D.seen folder.new).faults) }
@@ -54,10 +59,15 @@ impl Rows for ZoneRows {
 
     const NEEDED: Column = Column::AgencyTimezone;
 
+    ghost places = { λ column head. IsPlace head (column_name Column.AgencyTimezone) (Some column) };
+
+    ghost holds = { λ s column rows. HoldsZone s.name column rows };
+
     fn columns<F: OpenedFile>(table: &Table<F>) -> Result<usize, FeedRefused> {
         table.needed(Column::AgencyTimezone)
     }
 
+    #[tactic(auto, using(crate::proofs::StandFacts::zone_first, crate::proofs::StandFacts::zone_more))]
     fn take_row<F: OpenedFile>(
         &mut self,
         alloc: Global,
@@ -66,15 +76,23 @@ impl Rows for ZoneRows {
     ) -> Result<(), FeedRefused> {
         match &self.name {
             Some(name) => {
-                if table.field(column) != name.as_str() {
-                    return Err(table.refused(RowReason::TwoZones));
+                if is_same(table.field(column), name.as_str()) {
+                    Ok(())
+                } else {
+                    Err(table.refused(RowReason::TwoZones))
                 }
             }
             None => {
                 let name = table.id(column, Column::AgencyTimezone)?;
                 self.name = Some(owned(alloc, name)?);
+                Ok(())
             }
         }
-        Ok(())
     }
+}
+
+fn is_same(one: &str, other: &str) -> bool
+    ensures { IsTrue result ↔ (one.now ≡ other.now) }
+{
+    one == other
 }

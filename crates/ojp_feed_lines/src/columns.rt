@@ -1,5 +1,8 @@
 //! The columns of a feed's files, and the fields of the operator's lines.
 
+ghost use Rattle.std.specs.Prelude.{◌≡◌};
+ghost use Rattle.ojp_feed_lines.specs.Columns.{column_name};
+
 /// A column that is read, or a field of an operator's line.
 #[derive(Clone, Copy, Debug, PartialEq, Eq)]
 pub enum Column {
@@ -50,7 +53,9 @@ pub enum Column {
 
 impl Column {
     /// The name in a head line.
-    pub fn name(self) -> &'static str {
+    pub fn name(self) -> &'static str
+        ensures { result.now ≡ column_name self }
+    {
         match self {
             Column::AgencyTimezone => "agency_timezone",
             Column::ArrivalTime => "arrival_time",

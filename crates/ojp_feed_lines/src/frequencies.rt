@@ -1,6 +1,6 @@
 //! `frequencies.txt`.
 
-ghost use Rattle.std.specs.Prelude.{◌≡◌, ◌≤◌, IfErr, IsTrue};
+ghost use Rattle.std.specs.Prelude.{◌≡◌, ◌≤◌, ⊤, IfErr, IfOk, IsTrue};
 ghost use Rattle.ojp_outside.specs.Causes.{Rose};
 ghost use Rattle.ojp_feed_lines.specs.Refusals.{Explains, IsRowRefusal, is_unread};
 
@@ -55,6 +55,10 @@ impl Rows for FrequencyRows {
     type Columns = FrequencyColumns;
 
     const NEEDED: Column = Column::TripId;
+
+    ghost places = { λ _ _. ⊤ };
+
+    ghost holds = { λ _ _ _. ⊤ };
 
     fn columns<F: OpenedFile>(table: &Table<F>) -> Result<FrequencyColumns, FeedRefused> {
         Ok(FrequencyColumns {

@@ -1,6 +1,6 @@
 //! Ids by number.
 
-ghost use Rattle.std.specs.Prelude.{◌≡◌, IfErr};
+ghost use Rattle.std.specs.Prelude.{◌≡◌, ◌∷◌, ◌++◌, [], IfErr, IfOk, OnOk, string_bytes};
 ghost use Rattle.ojp_feed_lines.specs.Refusals.{IsRowRefusal};
 
 use crate::columns::Column;
@@ -79,7 +79,8 @@ impl Ids {
 
 /// A text of its own.
 pub(crate) fn owned(alloc: Global, text: &str) -> Result<String, FeedRefused>
-    ensures { IfErr result (λ e. e ≡ FeedRefused.NoMemory) }
+    ensures text { IfOk result (λ owned. string_bytes owned ≡ text.now) }
+    ensures memory { IfErr result (λ e. e ≡ FeedRefused.NoMemory) }
 {
     match String::from_str(alloc, text) {
         Ok(owned) => Ok(owned),
@@ -89,7 +90,8 @@ pub(crate) fn owned(alloc: Global, text: &str) -> Result<String, FeedRefused>
 
 /// Puts a row behind the others.
 pub(crate) fn put<T: Drop>(rows: &mut Vec<T>, row: T) -> Result<(), FeedRefused>
-    ensures { IfErr result (λ e. e ≡ FeedRefused.NoMemory) }
+    ensures put { OnOk result (rows.new.items ≡ rows.old.items ++ row ∷ []) }
+    ensures memory { IfErr result (λ e. e ≡ FeedRefused.NoMemory) }
 {
     match rows.push(row) {
         Ok(()) => Ok(()),

@@ -1,8 +1,10 @@
 //! A feed, read file by file.
 
-ghost use Rattle.std.specs.Prelude.{◌≡◌, ◌≤◌, IfErr, IsTrue};
+ghost use Rattle.std.specs.Prelude.{◌≡◌, ◌≤◌, IfErr, IfOk, IsTrue, string_bytes};
 ghost use Rattle.ojp_outside.specs.Causes.{Rose};
 ghost use Rattle.ojp_feed_lines.specs.Refusals.{Explains, IsRowRefusal, is_unread};
+ghost use Rattle.ojp_feed_lines.specs.Places.{AreRoutesOf, IsZoneOf};
+ghost use Rattle.ojp_feed_lines.specs.Rows.{OfFile};
 
 use crate::agency::read_zone_name;
 use crate::files::FeedFile;
@@ -43,6 +45,8 @@ pub fn read_feed<D: Folder>(
     folder: &mut D,
     asked: Asked<'_>,
 ) -> Result<Feed, FeedRefused>
+    ensures zone { IfOk result (λ feed. OfFile (D.seen folder.old).contents FeedFile.Agency (λ bytes. IsZoneOf bytes (string_bytes feed.zone_name))) }
+    ensures routes { IfOk result (λ feed. OfFile (D.seen folder.old).contents FeedFile.Routes (λ bytes. AreRoutesOf bytes feed.routes.items)) }
     ensures kept { (D.seen folder.new).contents ≡ (D.seen folder.old).contents }
     ensures later { (D.seen folder.old).faults ≤ (D.seen folder.new).faults }
     ensures unread { IfErr result (λ e. IsTrue (is_unread e) → Rose (D.seen folder.old).faults (D.seen folder.new).faults) }
@@ -72,6 +76,7 @@ struct Runs {
 }
 
 fn read_places<D: Folder>(alloc: Global, folder: &mut D) -> Result<Places, FeedRefused>
+    ensures routes { IfOk result (λ places. OfFile (D.seen folder.old).contents FeedFile.Routes (λ bytes. AreRoutesOf bytes places.routes.routes.items)) }
     ensures kept { (D.seen folder.new).contents ≡ (D.seen folder.old).contents }
     ensures later { (D.seen folder.old).faults ≤ (D.seen folder.new).faults }
     ensures unread { IfErr result (λ e. IsTrue (is_unread e) → Rose (D.seen folder.old).faults (D.seen folder.new).faults) }
@@ -147,7 +152,10 @@ fn with_calls<D: Folder>(
     Ok(trips)
 }
 
-fn feed_of(zone_name: String, places: Places, operator: Operator, runs: Runs) -> Feed {
+fn feed_of(zone_name: String, places: Places, operator: Operator, runs: Runs) -> Feed
+    ensures zone { result.zone_name ≡ zone_name }
+    ensures routes { result.routes ≡ places.routes.routes }
+{
     let passed = passed_over(&places, &runs);
     let Places { stops, routes } = places;
     let Runs {

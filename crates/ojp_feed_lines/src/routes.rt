@@ -1,8 +1,13 @@
 //! `routes.txt`.
 
-ghost use Rattle.std.specs.Prelude.{◌≡◌, ◌≤◌, IfErr, IsTrue};
+ghost use Rattle.std.specs.Prelude.{◌≡◌, ◌≤◌, IfErr, IfOk, IsTrue, Some, map};
+ghost use Rattle.csv.specs.Records.{fields_of};
 ghost use Rattle.ojp_outside.specs.Causes.{Rose};
 ghost use Rattle.ojp_feed_lines.specs.Refusals.{Explains, is_unread};
+ghost use Rattle.ojp_feed_lines.specs.Columns.{column_name};
+ghost use Rattle.ojp_feed_lines.specs.declared.columns.Column.{Column};
+ghost use Rattle.ojp_feed_lines.specs.Places.{AreRoutesOf, route_at, route_texts};
+ghost use Rattle.ojp_feed_lines.specs.Rows.{IsPlace, OfFile};
 
 use crate::columns::Column;
 use crate::fields::is_continuous;
@@ -34,6 +39,7 @@ pub(crate) struct RouteColumns {
 
 /// The routes of the folder.
 pub(crate) fn read_routes<D: Folder>(alloc: Global, folder: &mut D) -> Result<Routes, FeedRefused>
+    ensures told { IfOk result (λ routes. OfFile (D.seen folder.old).contents FeedFile.Routes (λ bytes. AreRoutesOf bytes routes.routes.items)) }
     ensures kept { (D.seen folder.new).contents ≡ (D.seen folder.old).contents }
     ensures later { (D.seen folder.old).faults ≤ (D.seen folder.new).faults }
     ensures unread { IfErr result (λ e. IsTrue (is_unread e) → Rose (D.seen folder.old).faults (D.seen folder.new).faults) }
@@ -53,6 +59,10 @@ impl Rows for Routes {
 
     const NEEDED: Column = Column::RouteId;
 
+    ghost places = { λ c head. IsPlace head (column_name Column.RouteId) (Some c.id) × IsPlace head (column_name Column.RouteShortName) c.short_name };
+
+    ghost holds = { λ s c rows. map route_texts s.routes.items ≡ map (route_at c.id c.short_name) rows };
+
     fn columns<F: OpenedFile>(table: &Table<F>) -> Result<RouteColumns, FeedRefused> {
         Ok(RouteColumns {
             id: table.needed(Column::RouteId)?,
@@ -62,6 +72,7 @@ impl Rows for Routes {
         })
     }
 
+    #[tactic(auto, using(crate::proofs::StandFacts::map_more))]
     fn take_row<F: OpenedFile>(
         &mut self,
         alloc: Global,
@@ -84,7 +95,8 @@ fn route_of<F: OpenedFile>(
     table: &Table<F>,
     columns: RouteColumns,
 ) -> Result<Route, FeedRefused>
-    ensures { IfErr result (λ e. e ≡ FeedRefused.NoMemory) }
+    ensures texts { IfOk result (λ route. route_texts route ≡ route_at columns.id columns.short_name (fields_of table.now.row)) }
+    ensures memory { IfErr result (λ e. e ≡ FeedRefused.NoMemory) }
 {
     let id = owned(alloc, table.field(columns.id))?;
     let short_name = owned(alloc, table.field_of(columns.short_name))?;

@@ -1,7 +1,11 @@
 //! A file of a folder, row by row.
 
-ghost use Rattle.std.specs.Prelude.{◌≡◌, ◌≤◌, ◌<◌, IfErr, IsTrue, Ok, false};
+ghost use Rattle.std.specs.Prelude.{◌≡◌, ◌≤◌, ◌<◌, ◌∷◌, ◌++◌, List, [], IfErr, IfOk, OnOk, IsTrue, Ok, true, false};
 ghost use Rattle.csv.specs.Reading.{reader_source};
+ghost use Rattle.csv.specs.Records.{fields_of};
+ghost use Rattle.ojp_values.specs.Texts.{Text};
+ghost use Rattle.ojp_feed_lines.specs.Rows.{OfFile, Record};
+ghost use Rattle.ojp_feed_lines.specs.Tables.{HasEnded, HasRead, HasTaken, HasTakenAll};
 ghost use Rattle.ojp_outside.specs.Causes.{Rose};
 ghost use Rattle.ojp_feed_lines.specs.Folders.{Lacks};
 ghost use Rattle.ojp_feed_lines.specs.Refusals.{Explains, IsNeeded, IsRowRefusal, IsTableRefusal, is_unread};
@@ -21,9 +25,16 @@ pub(crate) trait Rows {
     /// A column that the head line must have.
     const NEEDED: Column;
 
+    /// The places are those of the columns in the head line.
+    ghost places: { Self.Columns → Record → Type 0 };
+
+    /// What was taken stands for these records.
+    ghost holds: { Self → Self.Columns → List Record → Type 0 };
+
     /// The places by the head line, at which the table is.
     fn columns<F: OpenedFile>(table: &Table<F>) -> Result<Self::Columns, FeedRefused>
-        ensures { IfErr result (λ e. IsRowRefusal table.now.file e) };
+        ensures places { IfOk result (λ columns. places columns (fields_of table.now.row)) }
+        ensures refused { IfErr result (λ e. IsRowRefusal table.now.file e) };
 
     /// Takes the row at which the table is.
     fn take_row<F: OpenedFile>(
@@ -32,7 +43,8 @@ pub(crate) trait Rows {
         table: &Table<F>,
         columns: Self::Columns,
     ) -> Result<(), FeedRefused>
-        ensures { IfErr result (λ e. IsRowRefusal table.now.file e) };
+        ensures taken { OnOk result ((rows : List Record) → holds self.old columns rows → holds self.new columns (rows ++ fields_of table.now.row ∷ [])) }
+        ensures refused { IfErr result (λ e. IsRowRefusal table.now.file e) };
 }
 
 /// Takes each row of a file of the folder, and tells whether the file is there.
@@ -46,6 +58,8 @@ pub(crate) fn take_file<D: Folder, T: Rows>(
     ensures kept { (D.seen folder.new).contents ≡ (D.seen folder.old).contents }
     ensures later { (D.seen folder.old).faults ≤ (D.seen folder.new).faults }
     ensures unread { IfErr result (λ e. IsTrue (is_unread e) → Rose (D.seen folder.old).faults (D.seen folder.new).faults) }
+    ensures taken { result ≡ Ok true → ((columns : T.Columns) → T.holds rows.old columns [])
+        → OfFile (D.seen folder.old).contents file (HasTaken T.places (T.holds rows.new)) }
     ensures missing { result ≡ Ok false → Lacks (D.seen folder.old).contents file }
     ensures refused { IfErr result (λ e. Explains (D.seen folder.old).contents e) }
 {
@@ -74,6 +88,8 @@ pub(crate) fn take_needed<D: Folder, T: Rows>(
     rows: &mut T,
 ) -> Result<(), FeedRefused>
     requires { IsNeeded file }
+    ensures taken { OnOk result (((columns : T.Columns) → T.holds rows.old columns [])
+        → OfFile (D.seen folder.old).contents file (HasTaken T.places (T.holds rows.new))) }
     ensures kept { (D.seen folder.new).contents ≡ (D.seen folder.old).contents }
     ensures later { (D.seen folder.old).faults ≤ (D.seen folder.new).faults }
     ensures unread { IfErr result (λ e. IsTrue (is_unread e) → Rose (D.seen folder.old).faults (D.seen folder.new).faults) }
@@ -112,6 +128,8 @@ fn take_table<F: OpenedFile, T: Rows>(
     table: &mut Table<F>,
     rows: &mut T,
 ) -> Result<(), FeedRefused>
+    ensures taken { OnOk result ((bytes : Text) → HasRead F.remaining table.old.rows bytes []
+        → ((columns : T.Columns) → T.holds rows.old columns []) → HasTakenAll T.places (T.holds rows.new) bytes) }
     ensures refused { IfErr result (λ e. IsTableRefusal table.old.file e) }
     ensures unread { IfErr result (λ e. IsTrue (is_unread e) → 0 < F.faults (reader_source table.new.rows)) }
 {
@@ -129,6 +147,8 @@ fn take_rows<F: OpenedFile, T: Rows>(
     columns: T::Columns,
     rows: &mut T,
 ) -> Result<(), FeedRefused>
+    ensures taken { OnOk result ((bytes : Text) (head : Record) → HasRead F.remaining table.old.rows bytes (head ∷ [])
+        → T.holds rows.old columns [] → (all : List Record) × HasEnded bytes (head ∷ all) × T.holds rows.new columns all) }
     ensures refused { IfErr result (λ e. IsTableRefusal table.old.file e) }
     ensures unread { IfErr result (λ e. IsTrue (is_unread e) → 0 < F.faults (reader_source table.new.rows)) }
 {

@@ -1,6 +1,6 @@
 //! `calendar.txt` and `calendar_dates.txt`.
 
-ghost use Rattle.std.specs.Prelude.{◌≡◌, ◌≤◌, IfErr, IsTrue};
+ghost use Rattle.std.specs.Prelude.{◌≡◌, ◌≤◌, ⊤, IfErr, IfOk, IsTrue};
 ghost use Rattle.ojp_outside.specs.Causes.{Rose};
 ghost use Rattle.ojp_feed_lines.specs.Refusals.{Explains, IsRowRefusal, is_unread};
 
@@ -105,6 +105,10 @@ impl Rows for WeeklyRows {
 
     const NEEDED: Column = Column::Monday;
 
+    ghost places = { λ _ _. ⊤ };
+
+    ghost holds = { λ _ _ _. ⊤ };
+
     fn columns<F: OpenedFile>(table: &Table<F>) -> Result<WeeklyColumns, FeedRefused> {
         Ok(WeeklyColumns {
             weekdays: weekday_columns(table)?,
@@ -193,6 +197,10 @@ impl Rows for DatedRows {
     type Columns = DatedColumns;
 
     const NEEDED: Column = Column::ServiceId;
+
+    ghost places = { λ _ _. ⊤ };
+
+    ghost holds = { λ _ _ _. ⊤ };
 
     fn columns<F: OpenedFile>(table: &Table<F>) -> Result<DatedColumns, FeedRefused> {
         Ok(DatedColumns {

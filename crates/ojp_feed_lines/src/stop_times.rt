@@ -1,6 +1,6 @@
 //! `stop_times.txt`, the longest of the files.
 
-ghost use Rattle.std.specs.Prelude.{◌≡◌, ◌≤◌, IfErr, IsTrue};
+ghost use Rattle.std.specs.Prelude.{◌≡◌, ◌≤◌, ⊤, IfErr, IfOk, IsTrue};
 ghost use Rattle.ojp_outside.specs.Causes.{Rose};
 ghost use Rattle.ojp_feed_lines.specs.Refusals.{Explains, IsRowRefusal, is_unread};
 
@@ -68,8 +68,13 @@ impl Rows for CallRows<'_> {
 
     const NEEDED: Column = Column::TripId;
 
+    ghost places = { λ _ _. ⊤ };
+
+    ghost holds = { λ _ _ _. ⊤ };
+
     fn columns<F: OpenedFile>(table: &Table<F>) -> Result<CallColumns, FeedRefused>
-        ensures { IfErr result (λ e. IsRowRefusal table.now.file e) }
+        ensures places { IfOk result (λ _. ⊤) }
+        ensures refused { IfErr result (λ e. IsRowRefusal table.now.file e) }
     {
         Ok(CallColumns {
             trip: table.needed(Column::TripId)?,

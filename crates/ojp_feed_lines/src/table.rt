@@ -1,7 +1,12 @@
 //! The rows of a file, one after another.
 
-ghost use Rattle.std.specs.Prelude.{◌≡◌, ◌<◌, IfErr, IsTrue, false};
-ghost use Rattle.csv.specs.Reading.{reader_source};
+ghost use Rattle.std.specs.Prelude.{◌≡◌, ◌<◌, ◌∷◌, ◌++◌, ◌↔◌, List, [], IfErr, IfOk, IfSome, IsTrue, Ok, Some, true, false, length};
+ghost use Rattle.csv.specs.Reading.{reader_source, strip_bom};
+ghost use Rattle.csv.specs.Records.{field_at, fields_of};
+ghost use Rattle.ojp_values.specs.Texts.{Text};
+ghost use Rattle.ojp_feed_lines.specs.Columns.{column_name};
+ghost use Rattle.ojp_feed_lines.specs.Rows.{IsPlace, Record, at_place, or_nothing};
+ghost use Rattle.ojp_feed_lines.specs.Tables.{HasEnded, HasRead};
 ghost use Rattle.ojp_feed_lines.specs.Refusals.{IsRowRefusal, IsTableRefusal, is_of_row, is_unread};
 
 use crate::columns::Column;
@@ -24,6 +29,7 @@ impl<F: OpenedFile> Table<F> {
     /// The rows of a file, at none of them.
     pub fn new(alloc: Global, file: FeedFile, from: F) -> Table<F>
         ensures file { result.file ≡ file }
+        ensures read { IfSome (F.remaining from) (λ bytes. HasRead F.remaining result.rows (strip_bom bytes) []) }
     {
         let rows = ReaderBuilder::new()
             .has_headers(false)
@@ -48,6 +54,10 @@ impl<F: OpenedFile> Table<F> {
         ensures file { self.new.file ≡ self.old.file }
         ensures at { IfErr result (λ e. IsTableRefusal self.old.file e) }
         ensures unread { IfErr result (λ e. IsTrue (is_unread e) → 0 < F.faults (reader_source self.new.rows)) }
+        ensures row { result ≡ Ok true → (bytes : Text) (rows : List Record)
+            → HasRead F.remaining self.old.rows bytes rows → HasRead F.remaining self.new.rows bytes (rows ++ fields_of self.new.row ∷ []) }
+        ensures end { result ≡ Ok false → (bytes : Text) (rows : List Record)
+            → HasRead F.remaining self.old.rows bytes rows → HasEnded bytes rows }
     {
         match self.rows.read_record(&mut self.row) {
             Ok(found) => {
@@ -86,7 +96,9 @@ impl<F: OpenedFile> Table<F> {
     }
 
     /// The place of the column among the names of the row.
-    pub fn place(&self, column: Column) -> Option<usize> {
+    pub fn place(&self, column: Column) -> Option<usize>
+        ensures { IsPlace (fields_of self.now.row) (column_name column) result }
+    {
         for place in 0..self.row.len() {
             if self.is_named(place, column) {
                 return Some(place);
@@ -96,7 +108,9 @@ impl<F: OpenedFile> Table<F> {
     }
 
     /// Whether the field at that place is the name of the column.
-    fn is_named(&self, place: usize, column: Column) -> bool {
+    fn is_named(&self, place: usize, column: Column) -> bool
+        ensures { IsTrue result ↔ (field_at (fields_of self.now.row) place ≡ Some (column_name column)) }
+    {
         match self.row.get(place) {
             Some(name) => name == column.name(),
             None => false,
@@ -105,7 +119,8 @@ impl<F: OpenedFile> Table<F> {
 
     /// The place of the column, which the head line must have.
     pub fn needed(&self, column: Column) -> Result<usize, FeedRefused>
-        ensures { IfErr result (λ e. IsRowRefusal self.now.file e) }
+        ensures place { IfOk result (λ place. IsPlace (fields_of self.now.row) (column_name column) (Some place)) }
+        ensures refused { IfErr result (λ e. IsRowRefusal self.now.file e) }
     {
         match self.place(column) {
             Some(place) => Ok(place),
@@ -114,7 +129,9 @@ impl<F: OpenedFile> Table<F> {
     }
 
     /// The field at that place of the row, and nothing where there is none.
-    pub fn field(&self, place: usize) -> &str {
+    pub fn field(&self, place: usize) -> &str
+        ensures { result.now ≡ or_nothing (field_at (fields_of self.now.row) place) }
+    {
         match self.row.get(place) {
             Some(field) => field,
             None => "",
@@ -122,7 +139,9 @@ impl<F: OpenedFile> Table<F> {
     }
 
     /// The field at that place, where the file has the column.
-    pub fn field_of(&self, place: Option<usize>) -> &str {
+    pub fn field_of(&self, place: Option<usize>) -> &str
+        ensures { result.now ≡ at_place (fields_of self.now.row) place }
+    {
         match place {
             Some(place) => self.field(place),
             None => "",
@@ -145,7 +164,8 @@ impl<F: OpenedFile> Table<F> {
 
     /// The value of a field that was read.
     pub fn value<T>(&self, read: Option<T>, column: Column) -> Result<T, FeedRefused>
-        ensures { IfErr result (λ e. IsRowRefusal self.now.file e) }
+        ensures value { IfOk result (λ value. read ≡ Some value) }
+        ensures refused { IfErr result (λ e. IsRowRefusal self.now.file e) }
     {
         match read {
             Some(value) => Ok(value),
@@ -155,7 +175,8 @@ impl<F: OpenedFile> Table<F> {
 
     /// The text of a field, of one byte or more.
     pub fn id(&self, place: usize, column: Column) -> Result<&str, FeedRefused>
-        ensures { IfErr result (λ e. IsRowRefusal self.now.file e) }
+        ensures text { IfOk result (λ id. id.now ≡ or_nothing (field_at (fields_of self.now.row) place)) }
+        ensures refused { IfErr result (λ e. IsRowRefusal self.now.file e) }
     {
         let id = self.field(place);
         if id.is_empty() {

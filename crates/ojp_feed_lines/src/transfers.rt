@@ -1,6 +1,6 @@
 //! `transfers.txt`.
 
-ghost use Rattle.std.specs.Prelude.{◌≡◌, ◌≤◌, IfErr, IsTrue};
+ghost use Rattle.std.specs.Prelude.{◌≡◌, ◌≤◌, ⊤, IfErr, IfOk, IsTrue};
 ghost use Rattle.ojp_outside.specs.Causes.{Rose};
 ghost use Rattle.ojp_feed_lines.specs.Refusals.{Explains, IsRowRefusal, is_unread};
 
@@ -80,8 +80,13 @@ impl Rows for TransferRows<'_> {
 
     const NEEDED: Column = Column::FromStopId;
 
+    ghost places = { λ _ _. ⊤ };
+
+    ghost holds = { λ _ _ _. ⊤ };
+
     fn columns<F: OpenedFile>(table: &Table<F>) -> Result<TransferColumns, FeedRefused>
-        ensures { IfErr result (λ e. IsRowRefusal table.now.file e) }
+        ensures places { IfOk result (λ _. ⊤) }
+        ensures refused { IfErr result (λ e. IsRowRefusal table.now.file e) }
     {
         Ok(TransferColumns {
             from: table.needed(Column::FromStopId)?,

@@ -1,6 +1,6 @@
 //! `trips.txt`.
 
-ghost use Rattle.std.specs.Prelude.{◌≡◌, ◌≤◌, IfErr, IsTrue};
+ghost use Rattle.std.specs.Prelude.{◌≡◌, ◌≤◌, ⊤, IfErr, IfOk, IsTrue};
 ghost use Rattle.ojp_outside.specs.Causes.{Rose};
 ghost use Rattle.ojp_feed_lines.specs.Refusals.{Explains, IsRowRefusal, is_unread};
 
@@ -90,8 +90,13 @@ impl Rows for TripRows<'_> {
 
     const NEEDED: Column = Column::TripId;
 
+    ghost places = { λ _ _. ⊤ };
+
+    ghost holds = { λ _ _ _. ⊤ };
+
     fn columns<F: OpenedFile>(table: &Table<F>) -> Result<TripColumns, FeedRefused>
-        ensures { IfErr result (λ e. IsRowRefusal table.now.file e) }
+        ensures places { IfOk result (λ _. ⊤) }
+        ensures refused { IfErr result (λ e. IsRowRefusal table.now.file e) }
     {
         Ok(TripColumns {
             id: table.needed(Column::TripId)?,

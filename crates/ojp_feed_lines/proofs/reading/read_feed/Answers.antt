@@ -11,3 +11,9 @@ pub returns-in_err-operator-clause-refused : goal.returns-in_err-operator-clause
 returns-in_err-operator-clause-refused g c =
     passed_on c.from_residual-in_err-operator.result c.in_err-operator.field-0.0 (Explains (g.D.Folder.seen c.args.folder.now).contents)
     c.from_residual-in_err-operator.ensures.1 (table_explained _ _ _ (row_is_table _ _ c.in_err-operator.ensures))
+
+pub returns-clause-zone : goal.returns-clause-zone
+returns-clause-zone g c = rw c.feed_of.ensures.zone c.in_ok-zone_name.ensures.told
+
+pub returns-clause-routes : goal.returns-clause-routes
+returns-clause-routes g c = rw c.feed_of.ensures.routes (rw c.read_zone_name.ensures.kept at c.in_ok-places.ensures.routes)

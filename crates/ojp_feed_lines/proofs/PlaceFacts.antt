@@ -1,0 +1,38 @@
+-- The place of a column in a head line.
+use Rattle.std.proofs.Common.{◌≡◌, ◌≢◌, ℕ, zero, suc, ◌<◌, List, [], ◌∷◌, length, Option, Some, None, true, false, refl, sym, ap, ◌∙◌, arith, Decides, Bool}
+use Rattle.std.specs.Str.{bytes_eq}
+use Rattle.std.proofs.lemmas.Slice.Eq.{bytes_eq-Decides}
+use Rattle.csv.specs.Records.{field_at}
+use Rattle.ojp_values.specs.Texts.{Text}
+use Rattle.ojp_feed_lines.specs.Rows.{Record, at_place, or_nothing, under}
+
+-- no field before this place is the name
+abbrev pub LacksBefore : Record → Text → ℕ → Type 0
+LacksBefore head name place = (k : ℕ) → k < place → field_at head k ≢ Some name
+
+is_same : (b : Bool) (x y : Text) → Decides b (x ≡ y) → x ≡ y → b ≡ true
+is_same b x y d e = d.1 e
+
+is_other : (b : Bool) (x y : Text) → Decides b (x ≡ y) → x ≢ y → b ≡ false
+is_other true x y d n = absurd (n (d.0 refl))
+is_other false x y d n = refl
+
+-- the first field that is the name
+pub under_first : (head : Record) (name : Text) (place : ℕ) → field_at head place ≡ Some name → LacksBefore head name place
+    → (row : Record) → under head name row ≡ at_place row (Some place)
+unfolding under field_at
+under_first [] name place e n row = cc e
+under_first (h ∷ hs) name place e n [] = refl
+under_first (h ∷ hs) name zero e n (f ∷ fs) = rw (is_same (bytes_eq h name) h name (bytes_eq-Decides h name) (cc e)) refl
+under_first (h ∷ hs) name (suc place) e n (f ∷ fs) =
+    rw (is_other (bytes_eq h name) h name (bytes_eq-Decides h name) (λ s. n 0 (omega arith) (ap Some s)))
+    (under_first hs name place e (λ k below same. n (suc k) (omega (arith, below)) same) fs)
+
+-- no field is the name
+pub under_none : (head : Record) (name : Text) → LacksBefore head name (length head) → (row : Record) → under head name row ≡ []
+unfolding under field_at
+under_none [] name n row = refl
+under_none (h ∷ hs) name n [] = refl
+under_none (h ∷ hs) name n (f ∷ fs) =
+    rw (is_other (bytes_eq h name) h name (bytes_eq-Decides h name) (λ s. n 0 (omega arith) (ap Some s)))
+    (under_none hs name (λ k below same. n (suc k) (omega (arith, below)) same) fs)
