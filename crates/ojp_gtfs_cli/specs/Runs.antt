@@ -44,6 +44,10 @@ IsDone status = (status ≡ 0) ⊎ (status ≡ 10)
 abbrev pub IsFailed : ℕ → Type 0
 IsFailed status = (status ≡ 2) ⊎ ((status ≡ 3) ⊎ ((status ≡ 5) ⊎ (status ≡ 6)))
 
+-- a status that comes once there is a timetable: it was written, a write failed, or memory was wanted
+abbrev pub IsLate : ℕ → Type 0
+IsLate status = IsDone status ⊎ ((status ≡ 4) ⊎ (status ≡ 5))
+
 -- what the status says of the output
 abbrev pub WritesAs : {O : Type 0} → Lent O SinkView → ℕ → Type 0
 WritesAs output status =

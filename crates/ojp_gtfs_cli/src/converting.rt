@@ -1,6 +1,8 @@
 //! From the words to a timetable that was read.
 
-ghost use Rattle.std.specs.Prelude.{IfOk};
+ghost use Rattle.std.specs.Prelude.{◌≡◌, IfErr, IfOk, OnOk};
+ghost use Rattle.ojp_steps.specs.Lent.{lent};
+ghost use Rattle.ojp_gtfs_cli.specs.Causes.{ConversionFailsAs, FailsAs, FolderGoesOn, OthersFailAs, RowsFailAs, StoreGoesOn};
 ghost use Rattle.ojp_gtfs_cli.specs.Runs.{IsConverted};
 
 use crate::failures::{
@@ -9,25 +11,25 @@ use crate::failures::{
 use crate::fitting::{is_limit, latest_fit};
 use crate::words::Words;
 use crate::zones::zone_text;
-use ojp_feed::{ConvertRefused, Converted, convert};
+use ojp_feed::{Converted, convert};
 use ojp_feed_lines::{Asked, Folder, read_feed};
 use ojp_feed_rows::{Feed, Settings};
 use ojp_outside::{Sink, Store, StoreRefused};
 use ojp_region::read_table;
-use ojp_timetable::{TableRefused, Timetable};
+use ojp_timetable::Timetable;
 use std::alloc::Global;
 
-/// A feed that was converted: its rows, the zone, the text with its plan, and the timetable that is read from the text.
+/// A feed that was converted: its rows, the zone, and the text with its plan and its timetable; and the timetables of other regions.
 #[derive(Drop)]
 pub(crate) struct Done {
     pub feed: Feed,
     pub zone: String,
     pub converted: Converted,
-    pub table: Timetable,
     pub others: Vec<Timetable>,
 }
 
 /// Reads and converts the feed; a failure is told.
+#[tactic(auto, using(crate::proofs::CauseFacts::of_conversion, crate::proofs::CauseFacts::of_others, crate::proofs::CauseFacts::of_rows, crate::proofs::CauseFacts::of_zone, crate::proofs::CauseFacts::store_goes_on))]
 pub(crate) fn convert_feed<D: Folder, S: Store, E: Sink>(
     alloc: Global,
     words: &Words<'_>,
@@ -36,7 +38,10 @@ pub(crate) fn convert_feed<D: Folder, S: Store, E: Sink>(
     store: &mut S,
     report: &mut E,
 ) -> Result<Done, Failure>
-    ensures { IfOk result (λ done. IsConverted done.converted.text.items) }
+    ensures converted { IfOk result (λ done. IsConverted done.converted.text.items) }
+    ensures folder { FolderGoesOn (D.seen folder.old) (D.seen folder.new) }
+    ensures store { (S.seen store.new).contents ≡ (S.seen store.old).contents }
+    ensures cause { IfErr result (FailsAs zoneinfo.now (lent D.seen folder.old folder.new) (lent S.seen store.old store.new)) }
 {
     let others = read_others(alloc, words.rest, store, report)?;
     let feed = read_rows(alloc, words, folder, store, report)?;
@@ -49,29 +54,26 @@ pub(crate) fn convert_feed<D: Folder, S: Store, E: Sink>(
         as_open: words.options.as_open,
     };
     let (feed, converted) = convert_rows(alloc, feed, &settings, report)?;
-    match Timetable::read(alloc, &converted.text) {
-        Ok(table) => Ok(Done {
-            feed,
-            zone: settings.zone,
-            converted,
-            table,
-            others,
-        }),
-        Err(TableRefused::At { line, reason }) => {
-            let refused = ConvertRefused::Line { line, reason };
-            Err(refused_conversion(report, &feed, refused, None))
-        }
-        Err(TableRefused::NoMemory) => Err(no_memory(report)),
-    }
+    Ok(Done {
+        feed,
+        zone: settings.zone,
+        converted,
+        others,
+    })
 }
 
 /// The timetables of the files behind `--against`.
+#[tactic(auto, using(crate::proofs::CauseFacts::file_goes_on, crate::proofs::CauseFacts::file_kept, crate::proofs::CauseFacts::of_file, crate::proofs::CauseFacts::others_fail_later, crate::proofs::CauseFacts::store_goes_on))]
 fn read_others<S: Store, E: Sink>(
     alloc: Global,
     words: &[String],
     store: &mut S,
     report: &mut E,
-) -> Result<Vec<Timetable>, Failure> {
+) -> Result<Vec<Timetable>, Failure>
+    ensures kept { (S.seen store.new).contents ≡ (S.seen store.old).contents }
+    ensures on { OnOk result (StoreGoesOn (S.seen store.old) (S.seen store.new)) }
+    ensures cause { IfErr result (OthersFailAs (S.seen store.old) (S.seen store.new)) }
+{
     let mut others = Vec::new(alloc);
     let mut is_name = false;
     for word in words {
@@ -91,13 +93,18 @@ fn read_others<S: Store, E: Sink>(
 }
 
 /// The rows of the feed, with the operator's.
+#[tactic(auto, using(crate::proofs::CauseFacts::of_feed, crate::proofs::CauseFacts::too_long))]
 fn read_rows<D: Folder, S: Store, E: Sink>(
     alloc: Global,
     words: &Words<'_>,
     folder: &mut D,
     store: &mut S,
     report: &mut E,
-) -> Result<Feed, Failure> {
+) -> Result<Feed, Failure>
+    ensures folder { FolderGoesOn (D.seen folder.old) (D.seen folder.new) }
+    ensures store { StoreGoesOn (S.seen store.old) (S.seen store.new) }
+    ensures cause { IfErr result (RowsFailAs (D.seen folder.old) (D.seen folder.new) (S.seen store.old) (S.seen store.new)) }
+{
     let name = words.options.exchange.unwrap_or("");
     let operator = match words.options.exchange {
         None => None,
@@ -123,13 +130,15 @@ fn read_rows<D: Folder, S: Store, E: Sink>(
 }
 
 /// The feed converted; where a limit is passed, the latest day that fits is told.
+#[tactic(auto, using(crate::proofs::CauseFacts::unconverted))]
 fn convert_rows<E: Sink>(
     alloc: Global,
     feed: Feed,
     settings: &Settings,
     report: &mut E,
 ) -> Result<(Feed, Converted), Failure>
-    ensures { IfOk result (λ pair. IsConverted pair.1.text.items) }
+    ensures converted { IfOk result (λ pair. IsConverted pair.1.text.items) }
+    ensures cause { IfErr result ConversionFailsAs }
 {
     let mut feed = feed;
     match convert(alloc, &feed, settings) {

@@ -1,5 +1,7 @@
 //! How the program fails, with its status and its line.
 
+ghost use Rattle.std.specs.Prelude.{◌≡◌};
+ghost use Rattle.ojp_gtfs_cli.specs.Failures.{failure_of_conversion, failure_of_feed, failure_of_file, status_of};
 ghost use Rattle.ojp_gtfs_cli.specs.Runs.{IsFailed};
 
 use itoa::Buffer;
@@ -26,7 +28,8 @@ pub(crate) enum Failure {
 impl Failure {
     /// The exit status.
     pub fn status(self) -> u8
-        ensures { IsFailed result }
+        ensures failed { IsFailed result }
+        ensures value { result ≡ status_of self }
     {
         match self {
             Failure::Words => 2,
@@ -42,12 +45,16 @@ pub(crate) fn put<E: Sink>(report: &mut E, parts: &[&[u8]]) {
     let _ = put_parts(report, parts);
 }
 
-pub(crate) fn bad_words<E: Sink>(report: &mut E) -> Failure {
+pub(crate) fn bad_words<E: Sink>(report: &mut E) -> Failure
+    ensures { result ≡ Failure.Words }
+{
     put(report, &[b"ojp_gtfs: bad words\n"]);
     Failure::Words
 }
 
-pub(crate) fn no_memory<E: Sink>(report: &mut E) -> Failure {
+pub(crate) fn no_memory<E: Sink>(report: &mut E) -> Failure
+    ensures { result ≡ Failure.Memory }
+{
     put(report, &[b"no memory\n"]);
     Failure::Memory
 }
@@ -57,13 +64,17 @@ pub(crate) fn tell_output<E: Sink>(report: &mut E) {
 }
 
 /// A file could not be read.
-pub(crate) fn unread<E: Sink>(report: &mut E, file: &str) -> Failure {
+pub(crate) fn unread<E: Sink>(report: &mut E, file: &str) -> Failure
+    ensures { result ≡ Failure.Unread }
+{
     put(report, &[b"store: ", file.as_bytes(), b"\n"]);
     Failure::Unread
 }
 
 /// A file has more bytes than a file may have.
-pub(crate) fn too_long<E: Sink>(report: &mut E, file: &str) -> Failure {
+pub(crate) fn too_long<E: Sink>(report: &mut E, file: &str) -> Failure
+    ensures { result ≡ Failure.Unread }
+{
     put(report, &[b"too long: ", file.as_bytes(), b"\n"]);
     Failure::Unread
 }
@@ -85,7 +96,9 @@ pub(crate) fn refused_line<E: Sink>(
     line: u64,
     words: &str,
     column: &str,
-) -> Failure {
+) -> Failure
+    ensures { result ≡ Failure.Refused }
+{
     tell_place(report, file, line);
     put(report, &[words.as_bytes(), column.as_bytes(), b"\n"]);
     Failure::Refused
@@ -100,11 +113,9 @@ fn name_of<'a>(file: FeedFile, operator: &'a str) -> &'a str {
 }
 
 /// A feed was not read.
-pub(crate) fn refused_feed<E: Sink>(
-    report: &mut E,
-    refused: FeedRefused,
-    operator: &str,
-) -> Failure {
+pub(crate) fn refused_feed<E: Sink>(report: &mut E, refused: FeedRefused, operator: &str) -> Failure
+    ensures { result ≡ failure_of_feed refused }
+{
     match refused {
         FeedRefused::Unread(file) => unread(report, name_of(file, operator)),
         FeedRefused::At { file, line, reason } => {
@@ -116,7 +127,9 @@ pub(crate) fn refused_feed<E: Sink>(
 }
 
 /// Another region's file was not taken.
-pub(crate) fn refused_file<E: Sink>(report: &mut E, file: &str, refused: FileRefused) -> Failure {
+pub(crate) fn refused_file<E: Sink>(report: &mut E, file: &str, refused: FileRefused) -> Failure
+    ensures { result ≡ failure_of_file refused }
+{
     match refused {
         FileRefused::Failed => unread(report, file),
         FileRefused::TooLong => too_long(report, file),
@@ -126,7 +139,9 @@ pub(crate) fn refused_file<E: Sink>(report: &mut E, file: &str, refused: FileRef
 }
 
 /// No rule was found whose noons are those of the zone file.
-pub(crate) fn no_rule<E: Sink>(report: &mut E, zone: &str, window: Window) -> Failure {
+pub(crate) fn no_rule<E: Sink>(report: &mut E, zone: &str, window: Window) -> Failure
+    ensures { result ≡ Failure.Refused }
+{
     put(
         report,
         &[
@@ -156,7 +171,9 @@ pub(crate) fn refused_conversion<E: Sink>(
     feed: &Feed,
     refused: ConvertRefused,
     fits: Option<u32>,
-) -> Failure {
+) -> Failure
+    ensures { result ≡ failure_of_conversion refused }
+{
     match refused {
         ConvertRefused::NoMemory => return no_memory(report),
         ConvertRefused::DoubledStops { first, second } => {
@@ -184,7 +201,9 @@ pub(crate) fn refused_conversion<E: Sink>(
     Failure::Refused
 }
 
-fn doubled<E: Sink>(report: &mut E, file: &str, one: &str, other: &str) -> Failure {
+fn doubled<E: Sink>(report: &mut E, file: &str, one: &str, other: &str) -> Failure
+    ensures { result ≡ Failure.Refused }
+{
     put(
         report,
         &[

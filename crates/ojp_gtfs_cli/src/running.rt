@@ -1,7 +1,9 @@
 //! The top call.
 
-ghost use Rattle.ojp_steps.specs.Lent.{lent};
-ghost use Rattle.ojp_gtfs_cli.specs.Runs.{IsConverted, IsDone, WritesAs};
+ghost use Rattle.std.specs.Prelude.{◌≡◌};
+ghost use Rattle.ojp_steps.specs.Lent.{IsUnused, lent};
+ghost use Rattle.ojp_gtfs_cli.specs.Causes.{FolderGoesOn, IsUnread};
+ghost use Rattle.ojp_gtfs_cli.specs.Runs.{IsConverted, IsDone, IsLate, WritesAs};
 
 use crate::converting::{Done, convert_feed};
 use crate::failures::{bad_words, no_memory, tell_output};
@@ -23,6 +25,7 @@ const OUTPUT: u8 = 4;
 /// the store, which also has the operator's file and those of other regions.
 ///
 /// The timetable goes to the output, once it is read back and all else is done; the report and any failure go to `report`.
+#[tactic(auto, using(crate::proofs::CauseFacts::by_reading, crate::proofs::CauseFacts::by_words))]
 pub fn run<D: Folder, S: Store, O: Sink, E: Sink>(
     alloc: Global,
     words: &[String],
@@ -33,6 +36,10 @@ pub fn run<D: Folder, S: Store, O: Sink, E: Sink>(
     report: &mut E,
 ) -> u8
     ensures written { WritesAs (lent O.seen output.old output.new) result }
+    ensures words { result ≡ 2 → IsUnused (lent D.seen folder.old folder.new) × IsUnused (lent S.seen store.old store.new) }
+    ensures unread { result ≡ 3 → IsUnread zoneinfo.now (lent D.seen folder.old folder.new) (lent S.seen store.old store.new) }
+    ensures folder { FolderGoesOn (D.seen folder.old) (D.seen folder.new) }
+    ensures store { (S.seen store.new).contents ≡ (S.seen store.old).contents }
 {
     let Some(asked) = read_words(words) else {
         return bad_words(report).status();
@@ -54,11 +61,12 @@ fn finish<O: Sink, E: Sink>(
 ) -> u8
     requires { IsConverted done.now.converted.text.items }
     ensures written { WritesAs (lent O.seen output.old output.new) result }
+    ensures late { IsLate result }
 {
     tell(done, report);
     let seen = Seen {
         feed: &done.feed,
-        table: &done.table,
+        table: &done.converted.table,
         unserved: done.converted.plan.counts.unserved_stops,
         others: &done.others,
     };
@@ -74,7 +82,8 @@ fn finish<O: Sink, E: Sink>(
 fn write<O: Sink, E: Sink>(text: &[u8], status: u8, output: &mut O, report: &mut E) -> u8
     requires converted { IsConverted text.now }
     requires done { IsDone status }
-    ensures { WritesAs (lent O.seen output.old output.new) result }
+    ensures written { WritesAs (lent O.seen output.old output.new) result }
+    ensures late { IsLate result }
 {
     match put_all(output, text) {
         Ok(()) => status,

@@ -1,5 +1,8 @@
 //! The zone of a timetable: what the words say, or a rule that has the noons of the zone file.
 
+ghost use Rattle.std.specs.Prelude.{◌≡◌, IfErr, IfOk, string_bytes};
+ghost use Rattle.ojp_gtfs_cli.specs.Causes.{GivesNone, StoreGoesOn, ZoneFailsAs, zone_path};
+
 use crate::failures::{Failure, no_memory, no_rule, refused_line, too_long, unread};
 use ojp_calendars::{ZoneFault, zone_of_file};
 use ojp_feed_rows::{Feed, Window};
@@ -15,7 +18,10 @@ pub(crate) fn zone_text<S: Store, E: Sink>(
     zoneinfo: &str,
     store: &mut S,
     report: &mut E,
-) -> Result<String, Failure> {
+) -> Result<String, Failure>
+    ensures store { StoreGoesOn (S.seen store.old) (S.seen store.new) }
+    ensures cause { IfErr result (ZoneFailsAs zoneinfo.now (S.seen store.old) (S.seen store.new)) }
+{
     match asked {
         Some(rule) => match String::from_str(alloc, rule) {
             Ok(zone) => Ok(zone),
@@ -25,13 +31,17 @@ pub(crate) fn zone_text<S: Store, E: Sink>(
     }
 }
 
+#[tactic(auto, using(crate::proofs::CauseFacts::no_zone_file, crate::proofs::CauseFacts::too_long))]
 fn zone_by_file<S: Store, E: Sink>(
     alloc: Global,
     feed: &Feed,
     zoneinfo: &str,
     store: &mut S,
     report: &mut E,
-) -> Result<String, Failure> {
+) -> Result<String, Failure>
+    ensures store { StoreGoesOn (S.seen store.old) (S.seen store.new) }
+    ensures cause { IfErr result (ZoneFailsAs zoneinfo.now (S.seen store.old) (S.seen store.new)) }
+{
     let name = feed.zone_name.as_str();
     if !is_zone_name(name) {
         return Err(refused_line(report, "agency.txt", 2, "bad ", "agency_timezone"));
@@ -54,7 +64,10 @@ fn zone_by_file<S: Store, E: Sink>(
 }
 
 /// The text of a rule with the noons of the zone file.
-fn rule_of(alloc: Global, bytes: &[u8], window: Window) -> Result<String, ZoneFault> {
+#[tactic(auto, using(crate::proofs::CauseFacts::gives_none))]
+fn rule_of(alloc: Global, bytes: &[u8], window: Window) -> Result<String, ZoneFault>
+    ensures { IfErr result (GivesNone bytes.now) }
+{
     let text = zone_of_file(alloc, bytes, day_of(window.first), day_of(window.last))?;
     match str::from_utf8(&text) {
         Ok(text) => match String::from_str(alloc, text) {
@@ -86,7 +99,10 @@ fn is_zone_byte(byte: u8) -> bool {
     byte.is_ascii_alphanumeric() || byte == b'_' || byte == b'+' || byte == b'-' || byte == b'/'
 }
 
-fn path_of(alloc: Global, zoneinfo: &str, name: &str) -> Result<String, AllocError> {
+/// The path of a zone's file.
+fn path_of(alloc: Global, zoneinfo: &str, name: &str) -> Result<String, AllocError>
+    ensures { IfOk result (λ path. string_bytes path ≡ zone_path zoneinfo.now name.now) }
+{
     let mut path = String::from_str(alloc, zoneinfo)?;
     path.push_str("/")?;
     path.push_str(name)?;
