@@ -6,7 +6,7 @@
 mod asking;
 
 use crate::links::asking::{End, ask_first, with_region};
-use crate::tables::distinct_tables;
+use crate::tables::alone;
 use crate::words::number_of;
 use ojp_links_mem::{MemLinks, Script, What};
 use std::alloc::Global;
@@ -42,7 +42,7 @@ fn tell_end<R: Print>(rt: &R, number: u64, end: End) -> Option<()> {
 
 /// The links of a line.
 fn links_of(alloc: Global, table: &str, line: &str) -> Option<MemLinks> {
-    let tables = distinct_tables(alloc, table)?;
+    let tables = alone(alloc, table)?;
     let (kind, rest) = line.split_once(" ")?;
     if kind == "added" {
         let links = MemLinks::unopened(alloc, tables, 0).ok()?;

@@ -5,10 +5,7 @@
 
 mod boards;
 mod calendars;
-mod calls;
 mod feeds;
-mod gates;
-mod hostile;
 mod links;
 mod parts;
 mod region;

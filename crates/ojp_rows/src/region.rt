@@ -95,7 +95,7 @@ fn served(alloc: Global, table: &str, bytes: &[u8], most: usize) -> Option<(Serv
 }
 
 /// How the connection was served by the timetable.
-pub(crate) fn served_by(
+fn served_by(
     alloc: Global,
     table: &str,
     input: &mut MemSource,
@@ -104,17 +104,8 @@ pub(crate) fn served_by(
     let Ok(table) = Timetable::read(alloc, table.as_bytes()) else {
         return None;
     };
-    serve(alloc, &table, input, output)
-}
-
-fn serve(
-    alloc: Global,
-    table: &Timetable,
-    input: &mut MemSource,
-    output: &mut MemSink,
-) -> Option<Served> {
-    let Ok(mut scan) = Scan::new(alloc, table) else {
+    let Ok(mut scan) = Scan::new(alloc, &table) else {
         return None;
     };
-    Some(serve_one(alloc, table, &mut scan, input, output))
+    Some(serve_one(alloc, &table, &mut scan, input, output))
 }

@@ -1,17 +1,14 @@
 //! The sections of rows.
 
-use crate::{
-    HEADING, boards, calendars, calls, feeds, hostile, links, parts, region, scans, sockets,
-};
+use crate::{boards, calendars, feeds, links, parts, region, scans, sockets};
 use std::net::Net;
-use std::random::RandomSource;
 use std::rt::{Clock, Files};
 use std::sync::Wait;
 
-/// What telling rows takes: memory, printing, files, clocks, sockets, random bytes, and to wait.
-pub(crate) trait Host: AllocGlobal + Print + Files + Clock + Net + RandomSource + Wait {}
+/// What telling rows takes: memory, printing, files, clocks and sockets, some of which are waited for.
+pub(crate) trait Host: AllocGlobal + Print + Files + Clock + Net + Wait {}
 
-impl<R: AllocGlobal + Print + Files + Clock + Net + RandomSource + Wait> Host for R {}
+impl<R: AllocGlobal + Print + Files + Clock + Net + Wait> Host for R {}
 
 /// What the rows of a section are about.
 #[derive(Clone, Copy)]
@@ -24,8 +21,6 @@ pub(crate) enum Section {
     Parts,
     Calendars,
     Feeds,
-    Calls,
-    Hostile,
 }
 
 impl Section {
@@ -40,18 +35,16 @@ impl Section {
             "parts" => Some(Section::Parts),
             "calendars" => Some(Section::Calendars),
             "feeds" => Some(Section::Feeds),
-            "calls" => Some(Section::Calls),
-            "hostile" => Some(Section::Hostile),
             _ => None,
         }
     }
 
-    /// What stands between two rows. Those of sockets, parts and calendars are lines, and `hostile` is one row.
+    /// What stands between two rows: rows with timetables or feeds are of many lines, the others of one.
     pub fn row_end(self) -> &'static str {
         match self {
+            Section::Region | Section::Scans | Section::Boards | Section::Links | Section::Feeds =>
+                "====\n",
             Section::Sockets | Section::Parts | Section::Calendars => "\n",
-            Section::Hostile => HEADING,
-            _ => "====\n",
         }
     }
 
@@ -66,8 +59,6 @@ impl Section {
             Section::Parts => parts::tell(rt, row),
             Section::Calendars => calendars::tell(rt, row),
             Section::Feeds => feeds::tell(rt, row),
-            Section::Calls => calls::tell(rt, row),
-            Section::Hostile => hostile::tell(rt, row),
         }
     }
 }

@@ -1,0 +1,2 @@
+pub mod CodeFacts
+pub mod ReadyFacts

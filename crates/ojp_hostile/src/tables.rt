@@ -1,0 +1,51 @@
+//! Timetables of the input.
+
+ghost use Rattle.std.specs.Prelude.{◌≡◌, IfSome, map};
+ghost use Rattle.std.specs.List.{list_any};
+ghost use Rattle.ojp_values.specs.Texts.{same};
+ghost use Rattle.ojp_links.specs.Seen.{AreDistinct, region_of_table};
+ghost use Rattle.ojp_hostile.specs.Ready.{AreOfRegions};
+
+use ojp_timetable::Timetable;
+use ojp_values::Code;
+use std::alloc::Global;
+
+/// The timetables of the text, which are parted by lines of four hyphens.
+pub(crate) fn tables_of(alloc: Global, text: &str) -> Option<Vec<Timetable>>
+    ensures { IfSome result (λ tables. AreDistinct (map region_of_table tables.items)) }
+{
+    let mut tables = Vec::new(alloc);
+    let mut codes = Vec::new(alloc);
+    'tables: for part in text.split("----\n") {
+        let Ok(table) = Timetable::read(alloc, part.as_bytes()) else {
+            return None;
+        };
+        add_table(&mut tables, &mut codes, table)?;
+    }
+    Some(tables)
+}
+
+/// Adds the timetable, whose region none of the others has, and its region to theirs.
+fn add_table(tables: &mut Vec<Timetable>, codes: &mut Vec<Code>, table: Timetable) -> Option<()>
+    requires { AreOfRegions codes.old.items tables.old.items }
+    ensures { IfSome result (λ done. AreOfRegions codes.new.items tables.new.items) }
+{
+    let code = table.region();
+    if has_code(codes.as_slice(), &code) {
+        return None;
+    }
+    let Ok(()) = tables.push(table) else {
+        return None;
+    };
+    let Ok(()) = codes.push(code) else {
+        return None;
+    };
+    Some(())
+}
+
+/// Whether the code is among these.
+pub(crate) fn has_code(codes: &[Code], code: &Code) -> bool
+    ensures { result ≡ list_any (λ other. same other code.now) codes.now }
+{
+    codes.contains(code)
+}

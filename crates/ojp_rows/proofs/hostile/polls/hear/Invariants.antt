@@ -1,6 +1,0 @@
-use Rattle.ojp_subrequests.specs.Subrequests.{IsHeldIn}
-use Rattle.ojp_rows.proofs.hostile.polls.hear.Given as goal
-
--- the subrequest is held
-abbrev pub invariant-polls : goal.invariant-polls
-invariant-polls g l = IsHeldIn l.sub (g.L.Links.seen l.links)

@@ -1,6 +1,0 @@
-use Rattle.ojp_links_mem.specs.Memory.{links_of}
-use Rattle.ojp_rows.proofs.ReadyFacts.{learned_ready}
-use Rattle.ojp_rows.proofs.hostile.waits.learned.Goals as goal
-
-pub returns-in-Ok : goal.returns-in-Ok
-returns-in-Ok g c = learned_ready c.in-Ok.book (links_of c.args.links.now) (links_of c.learn_waiting.new.links) c.learn_waiting.result c.in-Ok.is c.learn_waiting.ensures
