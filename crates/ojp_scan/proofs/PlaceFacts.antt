@@ -12,16 +12,19 @@ use Rattle.ojp_values.specs.Lists.{Among}
 use Rattle.ojp_values.specs.Texts.{Text, same}
 use Rattle.ojp_timetable.specs.Tables.{Timetable, Journey, Place, place_of, change_of, name_of}
 use Rattle.ojp_timetable.specs.declared.calls.Call.{Call}
-use Rattle.ojp_timetable.specs.declared.kept.PlaceView.{PlaceView}
-use Rattle.ojp_timetable.specs.Views.{place_view}
 use Rattle.ojp_timetable.specs.Runs.{IsWell}
 use Rattle.ojp_scan.specs.Networks.{place_number, HaveNumbers}
-use Rattle.ojp_scan.specs.Views.{IsPlaceOf}
-use Rattle.ojp_values.proofs.EachFacts.{read_at, read_once}
+use Rattle.ojp_values.proofs.EachFacts.{read_once}
 use Rattle.ojp_scan.proofs.TableFacts.{call-well}
 
 bytes-same : (x y : Text) → x ≡ y → bytes_eq x y ≡ true
 bytes-same x y e = (bytes_eq-Decides x y).1 e
+
+-- the stop is one of the places
+pub record IsPlaceOf (table : Timetable) (stop : Text) : Type 0 where
+  pub place : Place
+  pub is_place : Among place table.places
+  pub at : place.stop ≡ stop
 
 -- the place of a number
 pub record IsPlaceAt (table : Timetable) (stop : Text) (k : ℕ) : Type 0 where
@@ -31,13 +34,6 @@ pub record IsPlaceAt (table : Timetable) (stop : Text) (k : ℕ) : Type 0 where
 
 no-place : Place
 no-place = record { stop = []; change = 0; name = [] }
-
--- the place that is seen at a number
-pub place-seen : (table : Timetable) (k : ℕ) (view : PlaceView) → k < length table.places → Some view ≡ option_map place_view (slice_get table.places k) → IsPlaceAt table view.stop k
-place-seen table k view h e =
-    let r = read_at table.places k h in
-    let same_view = same_Some view (place_view r.0) (e ∙ ap (λ (o : Option Place). option_map place_view o) r.1) in
-    record { place = r.0; at = r.1; stop_is = ap (λ (v : PlaceView). v.stop) (sym same_view) }
 
 -- the place of that number has the stop
 pub number-read : (table : Timetable) (stop : Text) (k : ℕ) → place_number table stop ≡ Some k → IsPlaceAt table stop k

@@ -1,21 +1,26 @@
 -- The rows of a table, as they are made and as a network takes them.
-use Rattle.std.proofs.Common.{◌≡◌, ℕ, ◌+◌, ◌<◌, ◌≤◌, ◌⊎◌, List, [], ◌∷◌, ◌++◌, Some, length, sym, ap, subst, refl, inl, inr, arith, slice_get, ◌∙◌, zero, suc}
+use Rattle.std.proofs.Common.{◌≡◌, ℕ, ◌+◌, ◌<◌, ◌≤◌, ◌⊎◌, List, [], ◌∷◌, ◌++◌, Some, length, map, sym, ap, subst, refl, inl, inr, arith, slice_get, ◌∙◌, zero, suc}
 use Rattle.std.proofs.lemmas.Bool.{cases_lt}
-use Rattle.std.proofs.lemmas.List.{length_push}
-use Rattle.std.proofs.lemmas.Option.{none-some, same_Some, slice_get_within}
+use Rattle.std.specs.Prelude.{option_map}
+use Rattle.std.proofs.lemmas.List.{length_push, length-map}
+use Rattle.std.proofs.lemmas.Option.{none-some, same_Some, slice_get_within, slice_get-map}
 use Rattle.ojp_timetable.specs.Tables.{Timetable, Journey}
 use Rattle.ojp_timetable.specs.declared.calls.Call.{Call}
+use Rattle.ojp_timetable.specs.declared.kept.KeptCall.{KeptCall}
+use Rattle.ojp_timetable.specs.Kept.{AreAtPlaces, call_kept}
+use Rattle.ojp_timetable.specs.Views.{calls_at}
 use Rattle.ojp_timetable.specs.Runs.{IsWell}
 use Rattle.ojp_sweep.specs.declared.connections.Connection.{Connection}
 use Rattle.ojp_sweep.specs.Rides.{IsWellAt}
 use Rattle.ojp_sweep.specs.Rows.{AreRows}
 use Rattle.ojp_scan.specs.declared.hops.Hop.{Hop}
 use Rattle.ojp_scan.specs.Hops.{IsHop, StandsBefore}
-use Rattle.ojp_scan.specs.Networks.{IsConnection, IsPlacedAt, AreRowsUpTo, AreRowsOf, place_number}
-use Rattle.ojp_scan.specs.Views.{AreCallsOf}
-use Rattle.ojp_values.proofs.EachFacts.{among_at, read_once}
+use Rattle.ojp_scan.specs.Networks.{IsConnection, IsKeptAt, AreRowsUpTo, AreRowsOf}
+use Rattle.ojp_values.proofs.EachFacts.{among_at, read_at, read_once}
+use Rattle.ojp_timetable.proofs.ReadFacts.{calls_are}
 use Rattle.ojp_timetable.proofs.RideFacts.{ride_forward}
-use Rattle.ojp_scan.proofs.TableFacts.{IsHopOf, hop-of-calls, one-call, departs-forward, arrives-offset}
+use Rattle.ojp_timetable.proofs.StopFacts.{at-read}
+use Rattle.ojp_scan.proofs.TableFacts.{IsHopOf, hop-of-calls, departs-forward, arrives-offset}
 use Rattle.ojp_scan.proofs.PlaceFacts.{number-within}
 
 -- what is read of a list stays where one more element is pushed
@@ -117,32 +122,56 @@ module _ (rows : List Connection) (table : Timetable) (j p : ℕ) (are : AreRows
 pub hop-calls : (table : Timetable) → IsWell table → (hop : Hop) (h : IsHop table hop) → IsHopOf h.of.calls hop.position
 hop-calls table well hop h = hop-of-calls h.of.calls hop.position (well.shape h.of (among_at table.journeys hop.journey h.of h.at)) h.within
 
--- the calls of a hop among those that were read
-pub hop-read : (table : Timetable) → IsWell table → (hop : Hop) → IsHop table hop → (calls : List Call) → AreCallsOf table hop.journey calls → IsHopOf calls hop.position
-hop-read table well hop h calls are =
-    let one = read_once table.journeys hop.journey hop.journey are.journey h.of refl are.at h.at in
-    subst (λ (cs : List Call). IsHopOf cs hop.position) (sym (are.are ∙ ap (λ (j : Journey). j.calls) one)) (hop-calls table well hop h)
+-- the calls of a hop among those of the journey that was read
+pub hop-read : (table : Timetable) → IsWell table → (hop : Hop) → IsHop table hop → (journey : Journey) → slice_get table.journeys hop.journey ≡ Some journey → IsHopOf journey.calls hop.position
+hop-read table well hop h journey at =
+    let one = read_once table.journeys hop.journey hop.journey journey h.of refl at h.at in
+    subst (λ (j : Journey). IsHopOf j.calls hop.position) (sym one) (hop-calls table well hop h)
 
 -- a hop between the places of its calls is a connection
-pub hop-made : (table : Timetable) (hop : Hop) (calls : List Call) (from to departs arrives : ℕ) (board alight : Call) → AreCallsOf table hop.journey calls
-    → slice_get calls hop.position ≡ Some board → slice_get calls (hop.position + 1) ≡ Some alight → board.departs ≡ Some departs → alight.arrives ≡ Some arrives
-    → IsPlacedAt table hop.journey hop.position from → IsPlacedAt table hop.journey (hop.position + 1) to
-    → IsConnection table (record { departs = departs; arrives = arrives; from = from; to = to; journey = hop.journey; position = hop.position })
-hop-made table hop calls from to departs arrives board alight are leaves comes out in_at f t =
-    let first = subst (λ (cs : List Call). slice_get cs hop.position ≡ Some board) are.are leaves in
-    let last = subst (λ (cs : List Call). slice_get cs (hop.position + 1) ≡ Some alight) are.are comes in
+pub hop-made : (table : Timetable) (hop : Hop) (board alight : KeptCall) (departs arrives : ℕ) → IsKeptAt table hop.journey hop.position board → IsKeptAt table hop.journey (hop.position + 1) alight
+    → board.departs ≡ Some departs → alight.arrives ≡ Some arrives
+    → IsConnection table (record { departs = departs; arrives = arrives; from = board.place; to = alight.place; journey = hop.journey; position = hop.position })
+hop-made table hop board alight departs arrives b a out in_at =
+    let one = read_once table.journeys hop.journey hop.journey a.of b.of refl a.at b.at in
     record {
-      of = are.journey;
-      board = board;
-      alight = alight;
-      at = are.at;
-      board_at = first;
-      alight_at = last;
-      departs = out;
-      arrives = in_at;
-      from = subst (λ (k : Call). place_number table k.stop ≡ Some from) (one-call table hop.journey hop.position f.of are.journey f.call board f.at are.at f.call_at first) f.number;
-      to = subst (λ (k : Call). place_number table k.stop ≡ Some to) (one-call table hop.journey (hop.position + 1) t.of are.journey t.call alight t.at are.at t.call_at last) t.number;
+      of = b.of;
+      board = b.call;
+      alight = a.call;
+      at = b.at;
+      board_at = b.call_at;
+      alight_at = subst (λ (j : Journey). slice_get j.calls (hop.position + 1) ≡ Some a.call) one a.call_at;
+      departs = sym b.departs ∙ out;
+      arrives = sym a.arrives ∙ in_at;
+      from = b.number;
+      to = a.number;
     }
+
+-- the calls of a journey that are read as they are kept
+module _ (table : Timetable) (j : ℕ) (within : j < length table.journeys) (kept : List KeptCall) (are : map (call_kept table.places) kept ≡ calls_at table.journeys j) (placed : AreAtPlaces table.places kept) where
+  pub calls-kept : (journey : Journey) → slice_get table.journeys j ≡ Some journey → map (call_kept table.places) kept ≡ journey.calls
+  calls-kept journey at = are ∙ calls_are table.journeys j journey at
+
+  pub count-kept : (journey : Journey) → slice_get table.journeys j ≡ Some journey → length kept ≡ length journey.calls
+  count-kept journey at = sym (length-map kept (call_kept table.places)) ∙ ap length (calls-kept journey at)
+
+  pub kept-at : (position : ℕ) (call : KeptCall) → slice_get kept position ≡ Some call → IsKeptAt table j position call
+  kept-at position call read =
+      let r = read_at table.journeys j within in
+      record {
+        of = r.0;
+        call = call_kept table.places call;
+        at = r.1;
+        call_at = ap (λ (cs : List Call). slice_get cs position) (sym (calls-kept r.0 r.1)) ∙ (slice_get-map (call_kept table.places) kept position ∙ ap (option_map (call_kept table.places)) read);
+        arrives = refl;
+        departs = refl;
+        number = at-read table.places kept position call placed read;
+      }
+
+  pub hop-kept : (position : ℕ) → position + 1 < length kept → IsHop table (record { journey = j; position = position })
+  hop-kept position inside =
+      let r = read_at table.journeys j within in
+      record { of = r.0; at = r.1; within = omega (arith, inside, count-kept r.0 r.1) }
 
 -- the hops of a table
 module _ (table : Timetable) (well : IsWell table) where

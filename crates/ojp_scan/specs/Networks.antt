@@ -1,9 +1,10 @@
 -- The network of a timetable: its hops with places in the stead of stops.
-use Rattle.std.specs.Prelude.{◌≡◌, ℕ, ◌+◌, ◌*◌, ◌<◌, ◌≤◌, List, ◌⊎◌, Option, Some, None, length, slice_get, slice_index, position, bytes_eq, MatchOption}
+use Rattle.std.specs.Prelude.{◌≡◌, ℕ, ◌+◌, ◌*◌, ◌<◌, ◌≤◌, List, Option, Some, length, slice_get, slice_index, position, bytes_eq, MatchOption}
 use Rattle.indexmap.specs.IndexMap.{IndexMap, get}
 use Rattle.ojp_values.specs.Texts.{Text}
 use Rattle.ojp_timetable.specs.Tables.{Timetable, Journey, Place}
 use Rattle.ojp_timetable.specs.declared.calls.Call.{Call}
+use Rattle.ojp_timetable.specs.declared.kept.KeptCall.{KeptCall}
 use Rattle.ojp_sweep.specs.declared.connections.Connection.{Connection}
 use Rattle.ojp_sweep.specs.declared.connections.Connections.{Connections}
 use Rattle.ojp_sweep.specs.Rows.{IsNetworkOf}
@@ -13,13 +14,15 @@ use Rattle.ojp_scan.specs.Hops.{StandsBefore}
 abbrev pub place_number : Timetable → Text → Option ℕ
 place_number table stop = position (λ (place : Place). bytes_eq stop place.stop) table.places
 
--- the call at that position of the journey is at the place of that number
-pub record IsPlacedAt (table : Timetable) (journey position place : ℕ) : Type 0 where
+-- the call at that position of the journey is kept so: by the number of the place of its stop
+pub record IsKeptAt (table : Timetable) (journey position : ℕ) (kept : KeptCall) : Type 0 where
   pub of : Journey
   pub call : Call
   pub at : slice_get table.journeys journey ≡ Some of
   pub call_at : slice_get of.calls position ≡ Some call
-  pub number : place_number table call.stop ≡ Some place
+  pub arrives : kept.arrives ≡ call.arrives
+  pub departs : kept.departs ≡ call.departs
+  pub number : place_number table call.stop ≡ Some kept.place
 
 -- the connection is a hop of the table: from a call of a journey to the next, between the places of their stops
 pub record IsConnection (table : Timetable) (connection : Connection) : Type 0 where

@@ -1,8 +1,6 @@
--- The journeys of a timetable, their calls and the places of their stops, as the search reads them.
-use Rattle.std.specs.Prelude.{◌≡◌, ℕ, ◌<◌, List, Some, length, slice_get}
-use Rattle.ojp_values.specs.Lists.{Among}
-use Rattle.ojp_values.specs.Texts.{Text}
-use Rattle.ojp_timetable.specs.Tables.{Timetable, Journey, Place}
+-- The journeys of a timetable and their calls, as the search reads them.
+use Rattle.std.specs.Prelude.{◌≡◌, ℕ, ◌<◌, Some, length, slice_get}
+use Rattle.ojp_timetable.specs.Tables.{Timetable, Journey}
 use Rattle.ojp_timetable.specs.declared.calls.Call.{Call}
 use Rattle.ojp_timetable.specs.declared.kept.JourneyView.{JourneyView}
 
@@ -21,20 +19,8 @@ pub record IsInJourney (table : Timetable) (i position : ℕ) : Type 0 where
   pub at : slice_get table.journeys i ≡ Some journey
   pub within : position < length journey.calls
 
--- the calls are those of the journey of that number
-pub record AreCallsOf (table : Timetable) (i : ℕ) (calls : List Call) : Type 0 where
-  pub journey : Journey
-  pub at : slice_get table.journeys i ≡ Some journey
-  pub are : calls ≡ journey.calls
-
 -- the call at that position of the journey of that number
 pub record IsCallOf (table : Timetable) (i position : ℕ) (call : Call) : Type 0 where
   pub journey : Journey
   pub at : slice_get table.journeys i ≡ Some journey
   pub call_at : slice_get journey.calls position ≡ Some call
-
--- the stop is one of the places
-pub record IsPlaceOf (table : Timetable) (stop : Text) : Type 0 where
-  pub place : Place
-  pub is_place : Among place table.places
-  pub at : place.stop ≡ stop

@@ -6,7 +6,6 @@ ghost use Rattle.ojp_timetable.specs.Runs.{IsWell};
 ghost use Rattle.ojp_scan.specs.Networks.{HaveServices, HaveChanges, HaveNumbers, IsNetworkFor};
 
 use crate::rows::rows_of;
-use crate::views::{journey_at, place_of};
 use indexmap::IndexMap;
 use ojp_sweep::Connections;
 use ojp_timetable::Timetable;
@@ -49,7 +48,7 @@ fn service_at(table: &Timetable, index: usize) -> u32
     requires within { index < length table.now.journeys }
     ensures { (journey : Journey) → slice_get table.now.journeys index ≡ Some journey → result ≡ journey.service }
 {
-    journey_at(table, index).service as u32
+    table.service(index) as u32
 }
 
 /// The change time of each place.
@@ -84,9 +83,7 @@ pub fn numbers_of(alloc: Global, table: &Timetable) -> Result<IndexMap<StopRef, 
         return Err(NoMemory);
     };
     'places: for index in 0..table.places() {
-        let stop = table.place(index).stop;
-        let number = place_of(table, stop);
-        if numbers.insert(stop, number).is_err() {
+        if numbers.insert(table.stop(index), index as u32).is_err() {
             return Err(NoMemory);
         }
     }

@@ -10,6 +10,7 @@ pub mod MapFacts
 pub mod StopFacts
 pub mod CallFacts
 pub mod CallRowFacts
+pub mod KeptFacts
 pub mod PointFacts
 pub mod LineFacts
 pub mod PassFacts

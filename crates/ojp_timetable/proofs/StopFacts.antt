@@ -28,7 +28,7 @@ number-stop places stop number e =
     ap (λ (o : Option Place). unwrap_or (option_map (λ (place : Place). place.stop) o) []) (slice_get-get_or places number no_place h.0)
     ∙ sym ((bytes_eq-Decides stop (get_or places number no_place).stop).0 h.1)
 
-first_is : (n m size : ℕ) → n ≡ m → m < size → cond (nat_lt n size) (Some n) None ≡ Some m
+pub first_is : (n m size : ℕ) → n ≡ m → m < size → cond (nat_lt n size) (Some n) None ≡ Some m
 first_is n m size e l = ap (λ (b : Bool). cond b (Some n) None) (lt-ltb n size (omega (arith, e, l))) ∙ ap Some e
 
 apart : (n m : ℕ) → n < m → eqb n m ≡ false

@@ -1,13 +1,15 @@
 //! What the lines of a file declare, while it grows.
-ghost use Rattle.std.specs.Prelude.{◌≡◌, ◌≤◌, ◌↔◌, false, true, ◌<◌, IsSome, IsTrue, IfOk, OnOk, OnErr, is_some, length, option_copied, find, bytes_eq, unwrap_or, option_map, position, slice_get, IfSome, ◌^◌, [], ◌∷◌, ◌++◌};
+ghost use Rattle.std.specs.Prelude.{◌≡◌, ◌≤◌, ◌↔◌, false, true, ◌<◌, IsSome, IsTrue, IfOk, OnOk, OnErr, is_some, length, map, option_copied, find, bytes_eq, unwrap_or, option_map, position, slice_get, IfSome, ◌^◌, [], ◌∷◌, ◌++◌};
 ghost use Rattle.ojp_timetable.specs.Kept.{end_at};
+ghost use Rattle.ojp_timetable.specs.declared.kept.Head.{Head as HeadValue};
+ghost use Rattle.ojp_values.specs.Texts.{Text};
 ghost use Rattle.ojp_values.specs.declared.trips.Point.{Point as PointValue};
 ghost use Rattle.ojp_values.specs.declared.trips.Neighbour.{Neighbour as NeighbourValue};
 
 use crate::calls::Call;
 use crate::file::checks::{CALLS, JOURNEYS, PLACES};
 use crate::file::lines::{Dates, Line};
-use crate::kept::{FoundCall, Head, JourneyView, PlaceFacts, PlaceView};
+use crate::kept::{FoundCall, Head, JourneyView, KeptCall, PlaceFacts, PlaceView};
 use crate::point_lists::{insert_neighbour_at, insert_point};
 use crate::stops::Stops;
 use indexmap::IndexMap;
@@ -64,14 +66,28 @@ fn head_at(journeys: &IndexMap<Label, Head>, i: usize) -> Option<(Label, Head)>
     }
 }
 
+// Where the calls of the journey of that number begin.
+fn first_call(journeys: &IndexMap<Label, Head>, i: usize) -> Option<usize>
+    ensures first { result ≡ option_map (λ (entry : Text × HeadValue). entry.1.first_call) (slice_get journeys.now.entries i) }
+    ensures small { IfSome result (λ _. i < 2 ^ 63) }
+{
+    if i >= journeys.len() {
+        return None;
+    }
+    match journeys.get_index(i) {
+        None => None,
+        Some((_, head)) => Some(head.first_call),
+    }
+}
+
 // Where the calls of the journey behind that one begin, which is the end of all calls behind the last.
 fn end_at(journeys: &IndexMap<Label, Head>, i: usize, end: usize) -> usize
     requires { i < 2 ^ 63 }
     ensures { result ≡ end_at journeys.now.entries i end }
 {
-    match head_at(journeys, i + 1) {
+    match first_call(journeys, i + 1) {
         None => end,
-        Some((_, next)) => next.first_call,
+        Some(next) => next,
     }
 }
 
@@ -111,7 +127,7 @@ impl Model for Draft {
 impl Draft {
     ghost use Rattle.ojp_timetable.specs.Contents.{Contents, no_contents, has_place, has_service, has_journey, service_number, neighbours_at, calls_in, with_call, with_neighbour, with_point, point_with};
     ghost use Rattle.ojp_timetable.specs.Checks.{is_doubled, lacks_stop};
-    ghost use Rattle.ojp_timetable.specs.Kept.{IsAtPlace, facts_of};
+    ghost use Rattle.ojp_timetable.specs.Kept.{AreAtPlaces, HasNumber, IsAtPlace, call_kept, facts_of};
     ghost use Rattle.ojp_timetable.specs.declared.kept.FoundCall.{FoundCall as FoundCallValue};
     ghost use Rattle.ojp_timetable.specs.Views.{calls_at, dates_of, place_view, view_of};
     ghost use Rattle.ojp_timetable.specs.Tables.{Journey as JourneyValue, Place as PlaceValue};
@@ -466,6 +482,14 @@ impl Draft {
         self.stops.place_at(i)
     }
 
+    /// The stop of the place of that number, which is the number of no other stop.
+    pub fn stop_at(&self, i: usize) -> StopRef
+        requires { i < length self.now.places }
+        ensures { HasNumber self.now.places result i }
+    {
+        self.stops.stop(i)
+    }
+
     /// The days of the service of that number.
     pub fn dates_at(&self, i: usize) -> Option<Dates>
         ensures { result ≡ option_map dates_of (slice_get self.now.services i) }
@@ -499,6 +523,28 @@ impl Draft {
             return None;
         }
         self.stops.call_at(head.first_call + position)
+    }
+
+    /// The calls of the journey of that number as they are kept, and none where there is no such journey.
+    pub fn kept_calls(&self, i: usize) -> &[KeptCall]
+        ensures calls { map (call_kept self.now.places) result.now ≡ calls_at self.now.journeys i }
+        ensures places { AreAtPlaces self.now.places result.now }
+    {
+        let Some(first) = first_call(&self.journeys, i) else {
+            return &[];
+        };
+        let end = end_at(&self.journeys, i, self.stops.calls());
+        &self.stops.kept_calls()[first..end]
+    }
+
+    /// The number of the service of the journey of that number.
+    pub fn service_at(&self, i: usize) -> Option<usize>
+        ensures { result ≡ option_map (λ (journey : JourneyValue). journey.service) (slice_get self.now.journeys i) }
+    {
+        match self.journeys.get_index(i) {
+            None => None,
+            Some((_, head)) => Some(head.service),
+        }
     }
 
     /// The journey of that number.

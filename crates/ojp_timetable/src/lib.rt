@@ -16,5 +16,5 @@ pub use file::fields::body;
 pub use file::lines::TableReason;
 pub use file::reading::split_line;
 pub use file::refusals::TableRefused;
-pub use kept::{FoundCall, JourneyView, PlaceView};
+pub use kept::{FoundCall, JourneyView, KeptCall, PlaceView};
 pub use table::Timetable;

@@ -1,5 +1,5 @@
 //! The stops of a timetable and the calls at them.
-ghost use Rattle.std.specs.Prelude.{◌≡◌, ◌<◌, ◌↔◌, false, is_some, IfOk, IfSome, IsSome, IsTrue, OnOk, OnErr, length, option_map, find, bytes_eq, position, slice_get, [], ◌∷◌, ◌++◌};
+ghost use Rattle.std.specs.Prelude.{◌≡◌, ◌<◌, ◌↔◌, false, is_some, IfOk, IfSome, IsSome, IsTrue, OnOk, OnErr, length, map, option_map, find, bytes_eq, position, slice_get, [], ◌∷◌, ◌++◌};
 ghost use Rattle.std.specs.List.{list_any};
 ghost use Rattle.std.specs.Cmp.Lexicographic.{bytes_decides, nat_list_eq_equiv};
 ghost use Rattle.std.specs.Hash as fed;
@@ -64,7 +64,7 @@ impl Model for Stops {
 }
 
 impl Stops {
-    ghost use Rattle.ojp_timetable.specs.Kept.{IsAtPlace, call_kept, facts_of, no_stops, stop_of};
+    ghost use Rattle.ojp_timetable.specs.Kept.{AreAtPlaces, HasNumber, IsAtPlace, call_kept, facts_of, no_stops, stop_of};
     ghost use Rattle.ojp_timetable.specs.declared.kept.FoundCall.{FoundCall as FoundCallValue};
     ghost use Rattle.ojp_timetable.specs.Tables.{Place as PlaceValue};
     ghost use Rattle.ojp_timetable.specs.Views.{place_view};
@@ -182,6 +182,17 @@ impl Stops {
         }
     }
 
+    /// The stop of that number, which is the number of no other.
+    pub fn stop(&self, i: usize) -> StopRef
+        requires { i < length self.now.places }
+        ensures { HasNumber self.now.places result i }
+    {
+        match self.facts.as_slice().get_index(i) {
+            None => unreachable!(),
+            Some((stop, _)) => *stop,
+        }
+    }
+
     // The call that is kept so.
     fn found(&self, kept: &KeptCall) -> FoundCall
         requires { kept.now.place < length self.now.places }
@@ -208,6 +219,14 @@ impl Stops {
             None => None,
             Some(kept) => Some(self.found(kept)),
         }
+    }
+
+    /// The calls as they are kept.
+    pub fn kept_calls(&self) -> &[KeptCall]
+        ensures calls { map (call_kept self.now.places) result.now ≡ self.now.calls }
+        ensures places { AreAtPlaces self.now.places result.now }
+    {
+        self.kept.as_slice()
     }
 
     /// Adds a stop.

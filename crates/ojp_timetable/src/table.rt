@@ -1,5 +1,5 @@
 //! A timetable that was read.
-ghost use Rattle.std.specs.Prelude.{◌≡◌, ◌≤◌, ◌<◌, length, slice_get, position, bytes_eq, option_map, ◌↔◌, IsTrue, IfOk, IfErr, Some};
+ghost use Rattle.std.specs.Prelude.{◌≡◌, ◌≤◌, ◌<◌, length, map, slice_get, position, bytes_eq, option_map, ◌↔◌, IsTrue, IfOk, IfErr, Some};
 
 use crate::calls::Call;
 use crate::draft::Draft;
@@ -7,7 +7,7 @@ use crate::file::above::Above;
 use crate::file::lines::Dates;
 use crate::file::reading::read_lines;
 use crate::file::refusals::TableRefused;
-use crate::kept::{FoundCall, JourneyView, PlaceView};
+use crate::kept::{JourneyView, KeptCall, PlaceView};
 use ojp_values::{Code, Day, Instant, Label, Name, Point, StopRef};
 use ojp_zones::noons::Noons;
 use std::alloc::Global;
@@ -36,7 +36,7 @@ impl Model for Timetable {
 
 impl Timetable {
     ghost use Rattle.ojp_values.specs.Texts.{same};
-    ghost use Rattle.ojp_timetable.specs.Kept.{IsAtPlace};
+    ghost use Rattle.ojp_timetable.specs.Kept.{AreAtPlaces, call_kept};
     ghost use Rattle.ojp_timetable.specs.Tables.{Journey as JourneyValue, Place as PlaceValue, change_of, has, name_of};
     ghost use Rattle.ojp_timetable.specs.Runs.{IsWell, RunsOn, calls_of, moment};
     ghost use Rattle.ojp_timetable.specs.Views.{calls_at, dates_of, place_view, view_of};
@@ -165,6 +165,14 @@ impl Timetable {
         }
     }
 
+    /// The stop of the place of that number.
+    pub fn stop(&self, i: usize) -> StopRef
+        requires { i < length self.now.places }
+        ensures { position (λ (place : PlaceValue). bytes_eq result place.stop) self.now.places ≡ Some i }
+    {
+        self.draft.stop_at(i)
+    }
+
     /// The number of services.
     pub fn services(&self) -> usize
         ensures { result ≡ length self.now.services }
@@ -219,6 +227,17 @@ impl Timetable {
         }
     }
 
+    /// The number of the service of the journey of that number.
+    pub fn service(&self, i: usize) -> usize
+        requires { i < length self.now.journeys }
+        ensures { Some result ≡ option_map (λ (journey : JourneyValue). journey.service) (slice_get self.now.journeys i) }
+    {
+        match self.draft.service_at(i) {
+            Some(service) => service,
+            None => unreachable!(),
+        }
+    }
+
     /// The number of the journey of that label.
     pub fn journey_of(&self, id: Label) -> Option<usize>
         ensures { result ≡ position (λ (journey : JourneyValue). same id journey.id) self.now.journeys }
@@ -231,18 +250,17 @@ impl Timetable {
         requires { position < length (calls_at self.now.journeys i) }
         ensures { slice_get (calls_at self.now.journeys i) position ≡ Some result }
     {
-        self.found(i, position).call
-    }
-
-    /// The call at that place of the journey of that number, with the number of its stop.
-    pub fn found(&self, i: usize, position: usize) -> FoundCall
-        requires { position < length (calls_at self.now.journeys i) }
-        ensures call { slice_get (calls_at self.now.journeys i) position ≡ Some result.call }
-        ensures place { IsAtPlace self.now.places result }
-    {
         match self.draft.call_at(i, position) {
-            Some(found) => found,
+            Some(found) => found.call,
             None => unreachable!(),
         }
+    }
+
+    /// The calls of the journey of that number as they are kept, each by the number of its stop among the places.
+    pub fn kept_calls(&self, i: usize) -> &[KeptCall]
+        ensures calls { map (call_kept self.now.places) result.now ≡ calls_at self.now.journeys i }
+        ensures places { AreAtPlaces self.now.places result.now }
+    {
+        self.draft.kept_calls(i)
     }
 }
