@@ -23,13 +23,13 @@ moment days day offset = slice_index days.bases.items day + offset
 abbrev pub Runs : Connections → Days → ℕ → ℕ → Type 0
 Runs net days journey day = slice_index_or days.running.items (4 * slice_index net.services.items journey + day) false ≡ true
 
--- the connection is between places, on a journey, and goes forward
+-- the connection is between places, on a journey, and goes forward; its times are offsets in a day and a half
 pub record IsWellAt (places journeys : ℕ) (connection : Connection) : Type 0 where
   pub from : connection.from < places
   pub to : connection.to < places
   pub journey : connection.journey < journeys
   pub forward : connection.departs ≤ connection.arrives
-  pub offset : connection.arrives < 2 ^ 32
+  pub offset : connection.arrives < 2 ^ 17
 
 -- the walk is between places, takes a second at least, and stands among those of the place where it begins
 pub record IsWellWalk (net : Connections) (k : ℕ) (walk : Walk) : Type 0 where

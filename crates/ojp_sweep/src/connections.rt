@@ -6,7 +6,7 @@ ghost use Rattle.ojp_sweep.specs.Rows.{AreRows, AreChanges, IsNetworkOf};
 use crate::rows::by_departure;
 use std::alloc::{AllocError, Global};
 
-/// A hop of a journey from a call to the next: its ends are places, its times offsets in a day.
+/// A hop of a journey from a call to the next: its ends are places, its times offsets in a day and a half.
 #[derive(Clone, Copy, Debug)]
 pub struct Connection {
     pub departs: u32,
