@@ -1,7 +1,7 @@
 //! The checks of a line that speak of the lines above it, in their order.
-ghost use Rattle.std.specs.Prelude.{◌≡◌, false, None};
-ghost use Rattle.std.specs.List.{list_any};
-ghost use Rattle.ojp_values.specs.Texts.{same};
+ghost use Rattle.std.specs.Prelude.{◌≡◌, ◌≤◌, false, None, length};
+ghost use Rattle.std.specs.List.{list_any, position, position_or_len};
+ghost use Rattle.ojp_values.specs.Texts.{code_part, is_colon, is_x, same};
 ghost use Rattle.ojp_values.specs.declared.trips.Neighbour.{Neighbour as NeighbourValue};
 ghost use Rattle.ojp_timetable.specs.Contents.{has_place};
 ghost use Rattle.ojp_timetable.specs.WellContents.{Passes};
@@ -13,15 +13,41 @@ use crate::file::fields::is_same;
 use crate::file::lines::{Line, Open, TableReason};
 use ojp_values::{Code, Neighbour, StopRef};
 
+// Where the first colon stands.
+fn first_colon(stop: &[u8]) -> Option<usize>
+    ensures { result ≡ position is_colon stop.now }
+{
+    stop.iter().position(|byte| *byte == b':')
+}
+
+// How many bytes stand before the first colon.
+fn colon_place(stop: &[u8]) -> usize
+    ensures value { result ≡ position_or_len is_colon stop.now }
+    ensures fits { result ≤ length stop.now }
+{
+    first_colon(stop).unwrap_or(stop.len())
+}
+
+// What stands before the first colon.
+fn code_part(stop: &[u8]) -> &[u8]
+    ensures { result.now ≡ code_part stop.now }
+{
+    stop.split_at(colon_place(stop)).0
+}
+
+// Whether the text is `x`.
+fn is_x(text: &[u8]) -> bool
+    ensures { result ≡ is_x text.now }
+{
+    matches!(text, [b'x'])
+}
+
 // Whether this is an own stop of another region.
-#[tactic(auto, unfolding(ojp_values::specs::Texts::home))]
-fn is_stop_elsewhere(region: &[u8], stop: &StopRef) -> bool
+fn is_stop_elsewhere(region: &[u8], stop: &[u8]) -> bool
     ensures { result ≡ is_stop_elsewhere region.now stop.now }
 {
-    match stop.region() {
-        Some(code) => !is_same(code.text(), region),
-        None => false,
-    }
+    let code = code_part(stop);
+    !is_x(code) && !is_same(code, region)
 }
 
 #[tactic(auto, unfolding(crate::specs::Checks::is_foreign))]
@@ -30,10 +56,10 @@ fn is_foreign(draft: &Draft, line: &Line) -> bool
 {
     match line {
         Line::Header | Line::Region(_) | Line::Zone(_) => false,
-        Line::Place(stop, _, _) => is_stop_elsewhere(draft.region_text(), stop),
-        Line::Neighbour(stop, _) => is_stop_elsewhere(draft.region_text(), stop),
+        Line::Place(stop, _, _) => is_stop_elsewhere(draft.region_text(), stop.text()),
+        Line::Neighbour(stop, _) => is_stop_elsewhere(draft.region_text(), stop.text()),
         Line::Service(_, _) | Line::Journey(_, _, _) => false,
-        Line::Call(call) => is_stop_elsewhere(draft.region_text(), &call.stop),
+        Line::Call(call) => is_stop_elsewhere(draft.region_text(), call.stop.text()),
     }
 }
 
@@ -209,7 +235,7 @@ pub fn first_failing_of_call(
     ensures passes { result ≡ None → Passes draft.now left.now (Line.Call call.now) }
     ensures short { result ≡ None → is_long ≡ false }
 {
-    if is_stop_elsewhere(draft.region_text(), &call.stop) {
+    if is_stop_elsewhere(draft.region_text(), call.stop.text()) {
         return Some(TableReason::ForeignStop);
     }
     if !is_known {
