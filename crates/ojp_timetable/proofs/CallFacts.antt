@@ -4,13 +4,14 @@ use Rattle.std.specs.Prelude.{Option, Some, None, Result, Ok, Err, IsSome, IfOk,
 use Rattle.std.proofs.lemmas.Bool.{cases_Bool, eqb-true}
 use Rattle.ojp_values.specs.Texts.{Text, same}
 use Rattle.ojp_zones.specs.Numbers.{number}
-use Rattle.ojp_timetable.specs.Said.{begins_call, call_fields, call_said, called, entry_fields, found_said, entry_said, header_said, is_call_line, is_dash, may_call, offset, region_said, said, valued, word_of, zone_said}
+use Rattle.ojp_timetable.specs.Said.{call_fields, call_said, call_of, called, entry_fields, entry_said, header_said, is_dash, kept_said, may_call, offset, region_said, said, valued, word_of, zone_said}
 use Rattle.ojp_timetable.specs.Fields.{body, fields_of}
 use Rattle.ojp_timetable.specs.Checks.{checked, checks, first_failing, is_long, read_line, verdict}
 use Rattle.ojp_timetable.specs.Lines.{Above}
-use Rattle.ojp_timetable.specs.Tables.{Call}
+use Rattle.ojp_timetable.specs.Tables.{Call, Place}
+use Rattle.ojp_timetable.specs.Kept.{HasNumber, IsKeptByNumber, IsLookedUp, call_kept}
 use Rattle.ojp_timetable.specs.WellContents.{GoesOnFrom}
-use Rattle.ojp_timetable.specs.declared.kept.FoundCall.{FoundCall}
+use Rattle.ojp_timetable.specs.declared.kept.KeptCall.{KeptCall}
 use Rattle.ojp_timetable.specs.declared.kept.SaidCall.{SaidCall}
 use Rattle.ojp_timetable.specs.declared.file.lines.Line.TheVariants as Line
 use Rattle.ojp_timetable.specs.declared.file.lines.TableReason.{TableReason}
@@ -18,6 +19,7 @@ use Rattle.ojp_timetable.specs.declared.file.words.Word.{Word}
 use Rattle.ojp_timetable.specs.declared.file.words.Word.TheVariants as words
 use Rattle.ojp_timetable.specs.declared.file.lines.Open.{Open}
 use Rattle.ojp_timetable.specs.declared.file.lines.Open.TheVariants.{Nothing, Begun, Since}
+use Rattle.ojp_timetable.proofs.StopFacts.{number-stop}
 
 no_time : (b : Bool) (n : ℕ) → b ≡ true → cond b None (Some n) ≡ None
 no_time true n e = refl
@@ -42,10 +44,10 @@ goes_on (Since d) stop arrives departs h = some_time (is_dash arrives) (number a
 
 -- a call that is read of its fields goes on where it may stand
 pub call_goes_on : (left : Open) (stop arrives departs : Text) (read : Result SaidCall TableReason) → called read ≡ call_said stop arrives departs
-    → may_call left arrives departs ≡ true → IfOk read (λ (said : SaidCall). GoesOnFrom left said.call)
+    → may_call left arrives departs ≡ true → IfOk read (λ (said : SaidCall). GoesOnFrom left (call_of said))
 call_goes_on left stop arrives departs (Err reason) e h = tt
 call_goes_on left stop arrives departs (Ok said) e h =
-    subst (GoesOnFrom left) (same_call said.call _ _ e) (goes_on left stop arrives departs h)
+    subst (GoesOnFrom left) (same_call (call_of said) _ _ e) (goes_on left stop arrives departs h)
   where
     same_call : (x y : Call) (b : Bool) → Ok (Line.Call x) ≡ valued b (Line.Call y) → y ≡ x
     same_call x y true e = cc
@@ -63,15 +65,10 @@ call_word word e =
     (cond (same word (codes "neighbour")) (Some words.Neighbour)
     (cond (same word (codes "service")) (Some words.Service) None)))))) e
 
-fields_say : (region : Text) (left : Open) (fields : List Text) → begins_call fields ≡ true → entry_said region left fields ≡ call_fields left (drop 1 fields)
-unfolding entry_fields
-fields_say region left [] e = absurd (true≢false (sym e))
-fields_say region left (word ∷ fields) e = ap (λ (w : Option Word). entry_fields region left w fields) (call_word word e)
-
 -- what such a line says is what its other fields say of a call
-pub call_line_says : (region : Text) (left : Open) (line : Text) → is_call_line line ≡ true → entry_said region left (fields_of line) ≡ call_fields left (drop 1 (fields_of line))
-unfolding is_call_line
-call_line_says region left line e = fields_say region left (fields_of line) e
+pub call_line_says : (region : Text) (left : Open) (fields : List Text) → entry_said region left (codes "call" ∷ fields) ≡ call_fields left fields
+unfolding entry_fields same
+call_line_says region left fields = ap (λ (w : Option Word). entry_fields region left w fields) (call_word (codes "call") refl)
 
 -- and so it does below the third line
 pub below_third : (above : ℕ) (region : Text) (left : Open) (line : Text) → 3 ≤ above → said above region left line ≡ entry_said region left (fields_of line)
@@ -99,16 +96,25 @@ call_checked above text call long failing low says e f =
     ap (verdict (Line.Call call)) (f ∙ ap (λ (b : Bool). first_failing (checks above.contents above.left b (Line.Call call))) e)
     ∙ ap (checked above text) (says above.contents.region ∙ sym (below_third above.lines above.contents.region above.left (body text) low))
 
--- the fields behind the first
-pub fields_behind : (before rest : List Text) (first : Option (Bor (List ℕ))) → MatchOption first ((before ≡ []) × (rest ≡ [])) (λ field. before ≡ field.now ∷ rest) → rest ≡ drop 1 before
-fields_behind before rest None e = e.1 ∙ sym (ap (λ (fields : List Text). drop 1 fields) e.0)
-fields_behind before rest (Some field) e = sym (ap (λ (fields : List Text). drop 1 fields) e)
-
 -- a failed reading says its reason
 pub failed : (read : Result SaidCall TableReason) (reason : TableReason) → IsErrAnd read (λ e. e ≡ reason) → called read ≡ Err reason
 failed (Err e) reason h = ap Err h
 failed (Ok said) reason h = absurd h
 
-pub failed_found : (read : Result FoundCall TableReason) (reason : TableReason) → IsErrAnd read (λ e. e ≡ reason) → found_said read ≡ Err reason
-failed_found (Err e) reason h = ap Err h
-failed_found (Ok found) reason h = absurd h
+pub failed_kept : (places : List Place) (read : Result KeptCall TableReason) (reason : TableReason) → IsErrAnd read (λ e. e ≡ reason) → kept_said places read ≡ Err reason
+failed_kept places (Err e) reason h = ap Err h
+failed_kept places (Ok kept) reason h = absurd h
+
+-- ---- what is kept of a call
+
+-- a call at the stop of a number is kept by it
+pub kept_number : (places : List Place) (stop : Text) (kept : KeptCall) → HasNumber places stop kept.place → IsKeptByNumber places kept
+kept_number places stop kept h = subst (λ (t : Text). HasNumber places t kept.place) (sym (number-stop places stop kept.place h)) h
+
+-- what is kept of a call with the number of its stop is the call
+pub kept_is : (places : List Place) (call : Call) (kept : KeptCall) → HasNumber places call.stop kept.place → kept.arrives ≡ call.arrives → kept.departs ≡ call.departs → call_kept places kept ≡ call
+kept_is places call kept h a d = λ i. record { stop = number-stop places call.stop kept.place h i; arrives = a i; departs = d i }
+
+-- and so it is where the stop was looked up
+pub looked_number : (places : List Place) (said : SaidCall) (kept : KeptCall) → IsLookedUp places said → said.place ≡ Some kept.place → HasNumber places said.stop.now kept.place
+looked_number places said kept looked at = sym looked ∙ at

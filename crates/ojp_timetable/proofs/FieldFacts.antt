@@ -1,6 +1,7 @@
 -- Fields as the one text that they were.
-use Rattle.std.proofs.Common.{◌≡◌, ℕ, List, [], ◌∷◌, sym, refl, ap, subst, ◌∙◌, Bor}
+use Rattle.std.proofs.Common.{◌≡◌, ◌≤◌, ◌-◌, ℕ, List, [], ◌∷◌, codes, length, length-drop, take, drop, get_or, sym, refl, ap, subst, ◌∙◌, arith, Bor}
 use Rattle.std.specs.Prelude.{Option, Some, None, MatchOption, option_map}
+use Rattle.std.proofs.lemmas.List.{take_all}
 use Rattle.std.proofs.lemmas.List.Splits.{join_with_byte-slice_split}
 use Rattle.ojp_values.specs.Texts.{Text}
 use Rattle.ojp_zones.specs.Parts.{parts}
@@ -21,3 +22,23 @@ pub left_joined : (rest : Option (Bor (List ℕ))) (left : List Text) → fields
 left_joined None left h = sym h
 left_joined (Some text) left h =
     (sym (joined_all text.now) ∙ ap joined h, subst IsSomeList h (some_list (fields_of text.now) (parts-nonempty 32 text.now)))
+
+-- the fields of a line that begins with the word of a call and a space
+call_behind : (rest : Text) → fields_of (99 ∷ 97 ∷ 108 ∷ 108 ∷ 32 ∷ rest) ≡ codes "call" ∷ fields_of rest
+unfolding parts
+call_behind rest = refl
+
+five : (t : List ℕ) → 5 ≤ length t → t ≡ get_or t 0 0 ∷ get_or t 1 0 ∷ get_or t 2 0 ∷ get_or t 3 0 ∷ get_or t 4 0 ∷ drop 5 t
+five [] h = absurd (omega (arith, h))
+five (a ∷ []) h = absurd (omega (arith, h))
+five (a ∷ b ∷ []) h = absurd (omega (arith, h))
+five (a ∷ b ∷ c ∷ []) h = absurd (omega (arith, h))
+five (a ∷ b ∷ c ∷ d ∷ []) h = absurd (omega (arith, h))
+five (a ∷ b ∷ c ∷ d ∷ e ∷ more) h = refl
+
+pub begins_call : (t : List ℕ) → 5 ≤ length t → get_or t 0 0 ≡ 99 → get_or t 1 0 ≡ 97 → get_or t 2 0 ≡ 108 → get_or t 3 0 ≡ 108 → get_or t 4 0 ≡ 32
+    → fields_of t ≡ codes "call" ∷ fields_of (take (length t - 5) (drop 5 t))
+begins_call t h e0 e1 e2 e3 e4 =
+    ap fields_of (five t h)
+    ∙ ((λ i. fields_of (e0 i ∷ e1 i ∷ e2 i ∷ e3 i ∷ e4 i ∷ drop 5 t))
+    ∙ (call_behind (drop 5 t) ∙ ap (λ (rest : Text). codes "call" ∷ fields_of rest) (sym (take_all (length t - 5) (drop 5 t) (omega (arith, length-drop 5 t))))))

@@ -49,9 +49,13 @@ AreAtPlaces places (kept ∷ more) = HasNumber places (stop_of places kept.place
 abbrev pub IsAtPlace : List Place → FoundCall → Type 0
 IsAtPlace places found = HasNumber places found.call.stop found.place
 
+-- the call is kept by the number of its stop
+abbrev pub IsKeptByNumber : List Place → KeptCall → Type 0
+IsKeptByNumber places kept = HasNumber places (stop_of places kept.place) kept.place
+
 -- the stop of the call was looked up
 abbrev pub IsLookedUp : List Place → SaidCall → Type 0
-IsLookedUp places said = said.place ≡ position (λ (place : Place). bytes_eq said.call.stop place.stop) places
+IsLookedUp places said = said.place ≡ position (λ (place : Place). bytes_eq said.stop.now place.stop) places
 
 abbrev pub service_kept : Text × Dates → Service
 service_kept entry = record { id = entry.0; first = entry.1.first; last = entry.1.last; marks = entry.1.marks }

@@ -8,8 +8,9 @@ use Rattle.ojp_values.specs.declared.moments.TheConstants.{FIRST_DAY}
 use Rattle.ojp_zones.specs.Zones.{zone_of}
 use Rattle.ojp_zones.specs.declared.zone.Zone.{Zone as ZoneValue}
 use Rattle.ojp_timetable.specs.Fields.{fields_of, joined}
-use Rattle.ojp_timetable.specs.Tables.{Call}
-use Rattle.ojp_timetable.specs.declared.kept.FoundCall.{FoundCall}
+use Rattle.ojp_timetable.specs.Tables.{Call, Place}
+use Rattle.ojp_timetable.specs.Kept.{call_kept}
+use Rattle.ojp_timetable.specs.declared.kept.KeptCall.{KeptCall}
 use Rattle.ojp_timetable.specs.declared.kept.SaidCall.{SaidCall}
 use Rattle.ojp_timetable.specs.declared.file.lines.Line.{Line}
 use Rattle.ojp_timetable.specs.declared.file.lines.Line.TheVariants as lines
@@ -102,15 +103,19 @@ call_said stop arrives departs =
     valued (is_stop_ref stop && is_offset arrives && is_offset departs)
     (lines.Call (record { stop = stop; arrives = offset arrives; departs = offset departs }))
 
+-- the call that a line says
+abbrev pub call_of : SaidCall → Call
+call_of said = record { stop = said.stop.now; arrives = said.arrives; departs = said.departs }
+
 -- what a call line says, as what a line says
 abbrev pub called : Result SaidCall TableReason → Said
-called (Ok said) = Ok (lines.Call said.call)
+called (Ok said) = Ok (lines.Call (call_of said))
 called (Err reason) = Err reason
 
--- and so of a call whose stop was found
-abbrev pub found_said : Result FoundCall TableReason → Said
-found_said (Ok found) = Ok (lines.Call found.call)
-found_said (Err reason) = Err reason
+-- and so of a call as it is kept
+abbrev pub kept_said : List Place → Result KeptCall TableReason → Said
+kept_said places (Ok kept) = Ok (lines.Call (call_kept places kept))
+kept_said places (Err reason) = Err reason
 
 -- ---- the form of a line
 
@@ -168,15 +173,6 @@ entry_fields region left (Some word) fields = word_fields region left word field
 abbrev pub entry_said : Text → Open → List Text → Said
 entry_said region left [] = Err LineForm
 entry_said region left (word ∷ fields) = entry_fields region left (word_of word) fields
-
--- the first field is the word of a call
-abbrev pub begins_call : List Text → Bool
-begins_call [] = false
-begins_call (word ∷ fields) = same word (codes "call")
-
--- the line begins with the word of a call
-unfoldable pub is_call_line : Text → Bool
-is_call_line text = begins_call (fields_of text)
 
 -- line 1
 abbrev pub header_said : Text → Said

@@ -127,7 +127,7 @@ impl Model for Draft {
 impl Draft {
     ghost use Rattle.ojp_timetable.specs.Contents.{Contents, no_contents, has_place, has_service, has_journey, service_number, neighbours_at, calls_in, with_call, with_neighbour, with_point, point_with};
     ghost use Rattle.ojp_timetable.specs.Checks.{is_doubled, lacks_stop};
-    ghost use Rattle.ojp_timetable.specs.Kept.{AreAtPlaces, HasNumber, IsAtPlace, call_kept, facts_of};
+    ghost use Rattle.ojp_timetable.specs.Kept.{AreAtPlaces, HasNumber, IsAtPlace, IsKeptByNumber, call_kept, facts_of};
     ghost use Rattle.ojp_timetable.specs.declared.kept.FoundCall.{FoundCall as FoundCallValue};
     ghost use Rattle.ojp_timetable.specs.Views.{calls_at, dates_of, place_view, view_of};
     ghost use Rattle.ojp_timetable.specs.Tables.{Journey as JourneyValue, Place as PlaceValue};
@@ -374,29 +374,33 @@ impl Draft {
         Ok(())
     }
 
-    /// Adds a call to the last journey.
-    pub fn add_call(&mut self, found: &FoundCall) -> Result<(), NoMemory>
-        requires { IsAtPlace self.old.places found.now }
-        ensures value { OnOk result (self.new ≡ grown self.old (Line.Call found.now.call)) }
+    /// Adds a call, as it is kept, to the last journey.
+    pub fn add_call(&mut self, kept: &KeptCall) -> Result<(), NoMemory>
+        requires { IsKeptByNumber self.old.places kept.now }
+        ensures value { OnOk result (self.new ≡ grown self.old (Line.Call (call_kept self.old.places kept.now))) }
         ensures kept { (self.new.region ≡ self.old.region) × (self.new.zone ≡ self.old.zone) }
     {
         if self.journeys.is_empty() {
             return Ok(());
         }
-        let Ok(()) = self.stops.push_call(found) else {
+        let Ok(()) = self.stops.push_call(kept) else {
             return Err(NoMemory);
         };
         Ok(())
     }
 
-    // The call with the number of its stop.
-    fn found(&self, call: &Call) -> FoundCall
+    // What is kept of the call.
+    fn kept(&self, call: &Call) -> KeptCall
         requires { has_place self.now call.now.stop ≡ true }
-        ensures place { IsAtPlace self.now.places result }
-        ensures call { result.call ≡ call.now }
+        ensures place { IsKeptByNumber self.now.places result }
+        ensures call { call_kept self.now.places result ≡ call.now }
     {
         match self.place_number(&call.stop) {
-            Some(place) => FoundCall { call: *call, place },
+            Some(place) => KeptCall {
+                place,
+                arrives: call.arrives,
+                departs: call.departs,
+            },
             None => unreachable!(),
         }
     }
@@ -407,8 +411,8 @@ impl Draft {
         ensures value { OnOk result (self.new ≡ grown self.old (Line.Call call.now)) }
         ensures kept { (self.new.region ≡ self.old.region) × (self.new.zone ≡ self.old.zone) }
     {
-        let found = self.found(call);
-        self.add_call(&found)
+        let kept = self.kept(call);
+        self.add_call(&kept)
     }
 
     /// Declares what the line declares.
@@ -456,14 +460,14 @@ impl Draft {
         self.stops.number(stop)
     }
 
-    /// The reference that the text is, with the number of its place where it stands above.
+    /// The number of the place whose reference the text is, where it stands above, and the outer `None` where the text
+    /// is no reference.
     #[inline(always)]
     #[tactic(auto, unfolding(crate::specs::Contents::has_place, ojp_values::specs::Texts::same))]
-    pub fn stop_of(&self, text: &[u8]) -> Option<(StopRef, Option<usize>)>
+    pub fn stop_of(&self, text: &[u8]) -> Option<Option<usize>>
         ensures exact { IsSome result ↔ IsTrue (is_stop_ref text.now) }
-        ensures value { IfSome result (λ found. found.0 ≡ text.now) }
-        ensures first { IfSome result (λ found. found.1 ≡ position (λ (place : PlaceValue). bytes_eq text.now place.stop) self.now.places) }
-        ensures known { IfSome result (λ found. is_some found.1 ≡ has_place self.now text.now) }
+        ensures first { IfSome result (λ found. found ≡ position (λ (place : PlaceValue). bytes_eq text.now place.stop) self.now.places) }
+        ensures known { IfSome result (λ found. is_some found ≡ has_place self.now text.now) }
     {
         self.stops.read(text)
     }

@@ -26,11 +26,14 @@ pub struct FoundCall {
     pub place: usize,
 }
 
-/// A call that a line says, with the number of its stop where it stands above.
+/// A call that a line says: the text of its stop, with the number of the stop where it stands above,
+/// its arrival and its departure.
 #[derive(Clone, Copy, Debug)]
-pub struct SaidCall {
-    pub call: Call,
+pub struct SaidCall<'a> {
+    pub stop: &'a [u8],
     pub place: Option<usize>,
+    pub arrives: Option<u32>,
+    pub departs: Option<u32>,
 }
 
 /// A call as it is kept: the number of its stop among the places, its arrival and its departure.

@@ -64,7 +64,7 @@ impl Model for Stops {
 }
 
 impl Stops {
-    ghost use Rattle.ojp_timetable.specs.Kept.{AreAtPlaces, HasNumber, IsAtPlace, call_kept, facts_of, no_stops, stop_of};
+    ghost use Rattle.ojp_timetable.specs.Kept.{AreAtPlaces, HasNumber, IsAtPlace, IsKeptByNumber, call_kept, facts_of, no_stops, stop_of};
     ghost use Rattle.ojp_timetable.specs.declared.kept.FoundCall.{FoundCall as FoundCallValue};
     ghost use Rattle.ojp_timetable.specs.Tables.{Place as PlaceValue};
     ghost use Rattle.ojp_timetable.specs.Views.{place_view};
@@ -115,23 +115,22 @@ impl Stops {
         self.facts.get_index_of(StopText { text })
     }
 
-    /// The reference that the text is, with the number of its stop where that is one of them. Its text is not read
-    /// anew then.
-    pub fn read(&self, text: &[u8]) -> Option<(StopRef, Option<usize>)>
+    /// The number of the stop whose reference the text is, where it is one of them, and the outer `None` where the text
+    /// is no reference. The text of one of them is not read anew.
+    pub fn read(&self, text: &[u8]) -> Option<Option<usize>>
         ensures exact { IsSome result ↔ IsTrue (is_stop_ref text.now) }
-        ensures value { IfSome result (λ found. found.0 ≡ text.now) }
-        ensures first { IfSome result (λ found. found.1 ≡ position (λ (place : PlaceValue). bytes_eq text.now place.stop) self.now.places) }
-        ensures known { IfSome result (λ found. is_some found.1 ≡ list_any (λ (place : PlaceValue). bytes_eq text.now place.stop) self.now.places) }
+        ensures first { IfSome result (λ found. found ≡ position (λ (place : PlaceValue). bytes_eq text.now place.stop) self.now.places) }
+        ensures known { IfSome result (λ found. is_some found ≡ list_any (λ (place : PlaceValue). bytes_eq text.now place.stop) self.now.places) }
     {
         match self.number_of(text) {
             Some(number) => {
                 let stop = self.stop_at(number);
                 stop.text();
-                Some((stop, Some(number)))
+                Some(Some(number))
             }
             None => {
-                let stop = StopRef::from_bytes(text)?;
-                Some((stop, None))
+                let _ = StopRef::from_bytes(text)?;
+                Some(None)
             }
         }
     }
@@ -245,19 +244,14 @@ impl Stops {
         Ok(())
     }
 
-    /// Adds a call.
-    pub fn push_call(&mut self, found: &FoundCall) -> Result<(), NoMemory>
-        requires { IsAtPlace self.old.places found.now }
+    /// Adds a call as it is kept.
+    pub fn push_call(&mut self, kept: &KeptCall) -> Result<(), NoMemory>
+        requires { IsKeptByNumber self.old.places kept.now }
         ensures places { self.new.places ≡ self.old.places }
-        ensures added { OnOk result (self.new.calls ≡ self.old.calls ++ found.now.call ∷ []) }
+        ensures added { OnOk result (self.new.calls ≡ self.old.calls ++ call_kept self.old.places kept.now ∷ []) }
         ensures calls { OnErr result (self.new.calls ≡ self.old.calls) }
     {
-        let kept = KeptCall {
-            place: found.place,
-            arrives: found.call.arrives,
-            departs: found.call.departs,
-        };
-        let Ok(()) = self.kept.push(kept) else {
+        let Ok(()) = self.kept.push(*kept) else {
             return Err(NoMemory);
         };
         Ok(())

@@ -1,9 +1,9 @@
 //! The lines above the next one.
-ghost use Rattle.std.specs.Prelude.{◌≡◌, ◌+◌, ◌<◌, ◌≤◌, ◌^◌, None, Some, false, true, length, OnOk, IfOk, IfErr, IsSome};
-ghost use Rattle.ojp_timetable.specs.Fields.{body};
+ghost use Rattle.std.specs.Prelude.{◌≡◌, ◌+◌, ◌<◌, ◌≤◌, ◌^◌, ◌∷◌, None, Some, false, true, codes, length, OnOk, IfOk, IfErr, IsSome};
+ghost use Rattle.ojp_timetable.specs.Fields.{body, fields_of};
 ghost use Rattle.ojp_timetable.specs.Runs.{IsOffset};
-ghost use Rattle.ojp_timetable.specs.Kept.{IsAtPlace};
-ghost use Rattle.ojp_timetable.specs.Said.{found_said, is_call_line};
+ghost use Rattle.ojp_timetable.specs.Kept.{IsKeptByNumber, call_kept};
+ghost use Rattle.ojp_timetable.specs.Said.{kept_said};
 ghost use Rattle.ojp_zones.specs.Noons.{IsZone};
 
 use crate::draft::Draft;
@@ -11,8 +11,8 @@ use crate::file::checks::{first_failing, first_failing_of_call};
 use crate::file::fields::body;
 use crate::file::lines::{Line, Open, TableReason};
 use crate::file::refusals::{LineRefused, TableRefused};
-use crate::file::said::{is_call_line, is_closed, left_by, left_open, read_call_line, read_said};
-use crate::kept::{FoundCall, SaidCall};
+use crate::file::said::{behind_call, is_closed, left_by, left_open, read_call_line, read_said};
+use crate::kept::{KeptCall, SaidCall};
 use ojp_outside::FILE_LIMIT;
 use std::alloc::Global;
 use std::marker::Model;
@@ -29,16 +29,17 @@ pub struct Above {
     draft: Draft,
 }
 
-// The call with the number of its stop.
-fn found(said: SaidCall) -> FoundCall
-    requires { IsSome said.place }
-    ensures call { result.call ≡ said.call }
-    ensures place { said.place ≡ Some result.place }
+// What is kept of the call.
+fn kept(said: &SaidCall<'_>) -> KeptCall
+    requires { IsSome said.now.place }
+    ensures place { said.now.place ≡ Some result.place }
+    ensures times { (result.arrives ≡ said.now.arrives) × (result.departs ≡ said.now.departs) }
 {
     match said.place {
-        Some(place) => FoundCall {
-            call: said.call,
+        Some(place) => KeptCall {
             place,
+            arrives: said.arrives,
+            departs: said.departs,
         },
         None => unreachable!(),
     }
@@ -129,48 +130,48 @@ impl Above {
         }
     }
 
-    // The call that the line says with the number of its stop, or the first check that it fails.
+    // What is kept of the call that the line says, or the first check that it fails, where this stands behind
+    // its word.
     #[tactic(auto, unfolding(crate::specs::Checks::read_line))]
-    fn read_call(&self, text: &[u8]) -> Result<FoundCall, TableReason>
+    fn read_call(&self, text: &[u8], rest: &[u8]) -> Result<KeptCall, TableReason>
         requires below { 3 ≤ self.now.lines }
-        requires call { is_call_line (body text.now) ≡ true }
-        ensures value { found_said result ≡ read_line self.now text.now }
-        ensures within { IfOk result (λ found. IsOffset found.call.arrives × IsOffset found.call.departs) }
-        ensures stands { IfOk result (λ found. GoesOnFrom self.now.left found.call) }
-        ensures passes { IfOk result (λ found. Passes self.now.contents self.now.left (Line.Call found.call)) }
-        ensures place { IfOk result (IsAtPlace self.now.contents.places) }
+        requires call { fields_of (body text.now) ≡ codes "call" ∷ fields_of rest.now }
+        ensures value { kept_said self.now.contents.places result ≡ read_line self.now text.now }
+        ensures within { IfOk result (λ kept. IsOffset kept.arrives × IsOffset kept.departs) }
+        ensures stands { IfOk result (λ kept. GoesOnFrom self.now.left (call_kept self.now.contents.places kept)) }
+        ensures passes { IfOk result (λ kept. Passes self.now.contents self.now.left (Line.Call (call_kept self.now.contents.places kept))) }
+        ensures place { IfOk result (IsKeptByNumber self.now.contents.places) }
         ensures short { OnOk result (self.now.bytes + length text.now ≤ BYTES) }
     {
-        let said = read_call_line(&self.draft, &self.left, body(text))?;
-        let is_known = said.place.is_some();
+        let said = read_call_line(&self.draft, &self.left, rest)?;
         let is_long = self.is_long(text);
-        match first_failing_of_call(&self.draft, &self.left, is_long, is_known, &said.call) {
-            None => Ok(found(said)),
+        match first_failing_of_call(&self.draft, &self.left, is_long, &said) {
+            None => Ok(kept(&said)),
             Some(reason) => Err(reason),
         }
     }
 
-    // Takes a line of a call.
-    fn take_call(&mut self, alloc: Global, text: &[u8]) -> Result<(), LineRefused>
+    // Takes a line of a call, where this stands behind its word.
+    fn take_call(&mut self, alloc: Global, text: &[u8], rest: &[u8]) -> Result<(), LineRefused>
         requires room { self.old.lines + 1 < 2 ^ 64 }
         requires below { 3 ≤ self.old.lines }
-        requires call { is_call_line (body text.now) ≡ true }
+        requires call { fields_of (body text.now) ≡ codes "call" ∷ fields_of rest.now }
         ensures taken { OnOk result (self.new ≡ with_line self.old text.now) }
         ensures passed { OnOk result (reason_of (read_line self.old text.now) ≡ None) }
         ensures refused { IfErr result (IsLineRefusal (read_line self.old text.now)) }
         ensures left { IfErr result (λ refused. self.new ≡ left_after self.old refused) }
     {
-        let found = match self.read_call(text) {
-            Ok(found) => found,
+        let kept = match self.read_call(text, rest) {
+            Ok(kept) => kept,
             Err(reason) => return Err(LineRefused::Reason(reason)),
         };
-        let Ok(()) = self.draft.add_call(&found) else {
+        let Ok(()) = self.draft.add_call(&kept) else {
             *self = Above::new(alloc);
             return Err(LineRefused::NoMemory);
         };
         self.lines += 1;
         self.bytes += text.len() as u64;
-        self.left = left_by(found.call.departs);
+        self.left = left_by(kept.departs);
         Ok(())
     }
 
@@ -205,8 +206,10 @@ impl Above {
         ensures refused { IfErr result (IsLineRefusal (read_line self.old text.now)) }
         ensures left { IfErr result (λ refused. self.new ≡ left_after self.old refused) }
     {
-        if self.lines >= 3 && is_call_line(body(text)) {
-            return self.take_call(alloc, text);
+        if self.lines >= 3 {
+            if let Some(rest) = behind_call(body(text)) {
+                return self.take_call(alloc, text, rest);
+            }
         }
         self.take_line(alloc, text)
     }

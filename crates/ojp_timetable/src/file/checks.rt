@@ -1,16 +1,17 @@
 //! The checks of a line that speak of the lines above it, in their order.
-ghost use Rattle.std.specs.Prelude.{◌≡◌, ◌≤◌, false, None, length};
+ghost use Rattle.std.specs.Prelude.{◌≡◌, ◌≤◌, false, None, [], is_some, length};
 ghost use Rattle.std.specs.List.{list_any, position, position_or_len};
 ghost use Rattle.ojp_values.specs.Texts.{code_part, is_colon, is_x, same};
 ghost use Rattle.ojp_values.specs.declared.trips.Neighbour.{Neighbour as NeighbourValue};
 ghost use Rattle.ojp_timetable.specs.Contents.{has_place};
 ghost use Rattle.ojp_timetable.specs.WellContents.{Passes};
+ghost use Rattle.ojp_timetable.specs.Said.{call_of};
 ghost use Rattle.ojp_timetable.specs.Checks.{checks, departed, falls_from, first_failing, has_neighbour, is_before, is_doubled, is_falling, is_foreign, is_full, is_stop_elsewhere, lacks_service, lacks_stop, later_of};
 
-use crate::calls::Call;
 use crate::draft::Draft;
 use crate::file::fields::is_same;
 use crate::file::lines::{Line, Open, TableReason};
+use crate::kept::SaidCall;
 use ojp_values::{Code, Neighbour, StopRef};
 
 // Where the first colon stands.
@@ -145,11 +146,11 @@ fn departed(left: &Open) -> u32
     }
 }
 
-// Whether a time of the call is before one above it, where the call before departs then.
-fn falls_from(before: u32, call: &Call) -> bool
-    ensures { result ≡ falls_from before call.now }
+// Whether a time of a call is before one above it, where the call before departs then.
+fn falls_from(before: u32, arrives: Option<u32>, departs: Option<u32>) -> bool
+    ensures { result ≡ falls_from before (record { stop = []; arrives = arrives; departs = departs }) }
 {
-    is_before(before, call.arrives) || is_before(later_of(before, call.arrives), call.departs)
+    is_before(before, arrives) || is_before(later_of(before, arrives), departs)
 }
 
 #[tactic(auto, unfolding(crate::specs::Checks::is_falling))]
@@ -159,7 +160,7 @@ fn is_falling(left: &Open, line: &Line) -> bool
     match line {
         Line::Header | Line::Region(_) | Line::Zone(_) | Line::Place(_, _, _) => false,
         Line::Neighbour(_, _) | Line::Service(_, _) | Line::Journey(_, _, _) => false,
-        Line::Call(call) => falls_from(departed(left), call),
+        Line::Call(call) => falls_from(departed(left), call.arrives, call.departs),
     }
 }
 
@@ -220,28 +221,26 @@ pub fn first_failing(draft: &Draft, left: &Open, is_long: bool, line: &Line) -> 
     None
 }
 
-/// The first check that a call fails, as `first_failing` says it of its line; `is_known` says whether
-/// its stop stands above.
+/// The first check that a call fails, as `first_failing` says it of its line, where its stop was looked up.
 #[tactic(auto, unfolding(crate::specs::Checks::is_foreign, crate::specs::Checks::is_doubled, crate::specs::Checks::lacks_stop, crate::specs::Checks::lacks_service, crate::specs::Checks::is_falling, crate::specs::Checks::is_full))]
 pub fn first_failing_of_call(
     draft: &Draft,
     left: &Open,
     is_long: bool,
-    is_known: bool,
-    call: &Call,
+    said: &SaidCall<'_>,
 ) -> Option<TableReason>
-    requires { is_known ≡ has_place draft.now call.now.stop }
-    ensures value { result ≡ first_failing (checks draft.now left.now is_long (Line.Call call.now)) }
-    ensures passes { result ≡ None → Passes draft.now left.now (Line.Call call.now) }
+    requires { is_some said.now.place ≡ has_place draft.now said.now.stop.now }
+    ensures value { result ≡ first_failing (checks draft.now left.now is_long (Line.Call (call_of said.now))) }
+    ensures passes { result ≡ None → Passes draft.now left.now (Line.Call (call_of said.now)) }
     ensures short { result ≡ None → is_long ≡ false }
 {
-    if is_stop_elsewhere(draft.region_text(), call.stop.text()) {
+    if is_stop_elsewhere(draft.region_text(), said.stop) {
         return Some(TableReason::ForeignStop);
     }
-    if !is_known {
+    if said.place.is_none() {
         return Some(TableReason::UnknownStop);
     }
-    if falls_from(departed(left), call) {
+    if falls_from(departed(left), said.arrives, said.departs) {
         return Some(TableReason::FallingTimes);
     }
     if draft.calls() >= CALLS || is_long {

@@ -1,7 +1,7 @@
 //! Reading what a line says.
 ghost use Rattle.std.specs.Prelude.{◌≡◌, ◌≤◌, ◌↔◌, true, false, IsTrue, IsSome, IfSome, MatchOption, IfOk, ◌∷◌, [], List, ℕ, codes, is_some};
 ghost use Rattle.std.specs.List.{list_all};
-ghost use Rattle.ojp_values.specs.Texts.{same};
+ghost use Rattle.ojp_values.specs.Texts.{is_stop_ref, same};
 ghost use Rattle.ojp_values.specs.declared.moments.TheConstants.{FIRST_DAY, LAST_DAY};
 ghost use Rattle.ojp_timetable.specs.Lines.{IsWellLine, left_by, left_open};
 ghost use Rattle.ojp_timetable.specs.Runs.{IsOffset};
@@ -9,7 +9,7 @@ ghost use Rattle.ojp_timetable.specs.Contents.{has_place};
 ghost use Rattle.ojp_timetable.specs.Kept.{IsLookedUp};
 ghost use Rattle.ojp_timetable.specs.WellContents.{GoesOnFrom, MayStand, MayStandClosed};
 ghost use Rattle.ojp_timetable.specs.Fields.{fields_of, IsNotThree, IsNotTwo};
-ghost use Rattle.ojp_timetable.specs.Said.{are_marks, call_fields, call_said, called, day_of, entry_said, header_said, is_call_line, is_closed, is_dash, is_mark, is_offset, journey_fields, journey_said, marks_of, may_call, neighbour_fields, neighbour_said, offset, place_fields, place_said, region_said, said, service_fields, service_said, word_fields, zone_said};
+ghost use Rattle.ojp_timetable.specs.Said.{are_marks, call_fields, call_of, call_said, called, day_of, entry_said, header_said, is_closed, is_dash, is_mark, is_offset, journey_fields, journey_said, marks_of, may_call, neighbour_fields, neighbour_said, offset, place_fields, place_said, region_said, said, service_fields, service_said, word_fields, zone_said};
 
 use crate::calls::Call;
 use crate::draft::Draft;
@@ -181,18 +181,19 @@ fn read_offset(text: &[u8]) -> Option<Option<u32>>
 
 // A call with its arrival and its departure.
 #[inline(always)]
-fn read_call(
+fn read_call<'a>(
     draft: &Draft,
-    stop: &[u8],
+    stop: &'a [u8],
     arrives: &[u8],
     departs: &[u8],
-) -> Result<SaidCall, TableReason>
+) -> Result<SaidCall<'a>, TableReason>
     ensures value { called result ≡ call_said stop.now arrives.now departs.now }
-    ensures within { IfOk result (λ said. IsOffset said.call.arrives × IsOffset said.call.departs) }
+    ensures within { IfOk result (λ said. IsOffset said.arrives × IsOffset said.departs) }
     ensures place { IfOk result (IsLookedUp draft.now.places) }
-    ensures known { IfOk result (λ said. is_some said.place ≡ has_place draft.now said.call.stop) }
+    ensures known { IfOk result (λ said. is_some said.place ≡ has_place draft.now said.stop.now) }
+    ensures stop { IfOk result (λ said. IsTrue (is_stop_ref said.stop.now)) }
 {
-    let Some((stop, place)) = draft.stop_of(stop) else {
+    let Some(place) = draft.stop_of(stop) else {
         return Err(TableReason::Value);
     };
     let Some(arrives) = read_offset(arrives) else {
@@ -201,12 +202,12 @@ fn read_call(
     let Some(departs) = read_offset(departs) else {
         return Err(TableReason::Value);
     };
-    let call = Call {
+    Ok(SaidCall {
         stop,
+        place,
         arrives,
         departs,
-    };
-    Ok(SaidCall { call, place })
+    })
 }
 
 /// Whether a declaration may stand here.
@@ -326,16 +327,17 @@ fn read_journey_fields(fields: &mut Fields<'_>) -> Result<Line, TableReason>
 
 // The fields behind `call`.
 #[inline(always)]
-fn read_call_fields(
+fn read_call_fields<'a>(
     draft: &Draft,
     left: &Open,
-    fields: &mut Fields<'_>,
-) -> Result<SaidCall, TableReason>
+    fields: &mut Fields<'a>,
+) -> Result<SaidCall<'a>, TableReason>
     ensures value { called result ≡ call_fields left.now fields.old }
-    ensures within { IfOk result (λ said. IsOffset said.call.arrives × IsOffset said.call.departs) }
-    ensures stands { IfOk result (λ said. GoesOnFrom left.now said.call) }
+    ensures within { IfOk result (λ said. IsOffset said.arrives × IsOffset said.departs) }
+    ensures stands { IfOk result (λ said. GoesOnFrom left.now (call_of said)) }
     ensures place { IfOk result (IsLookedUp draft.now.places) }
-    ensures known { IfOk result (λ said. is_some said.place ≡ has_place draft.now said.call.stop) }
+    ensures known { IfOk result (λ said. is_some said.place ≡ has_place draft.now said.stop.now) }
+    ensures stop { IfOk result (λ said. IsTrue (is_stop_ref said.stop.now)) }
 {
     match three(fields) {
         Some((stop, arrives, departs)) => {
@@ -349,46 +351,54 @@ fn read_call_fields(
     }
 }
 
-// Whether the text is `call`.
-#[tactic(auto, unfolding(ojp_values::specs::Texts::same))]
-fn is_call_word(text: &[u8]) -> bool
-    ensures { result ≡ same text.now (codes "call") }
+/// What stands behind the word of a call, where the line begins with it and a space.
+pub fn behind_call(line: &[u8]) -> Option<&[u8]>
+    ensures { IfSome result (λ rest. fields_of line.now ≡ codes "call" ∷ fields_of rest.now) }
 {
-    matches!(text, [b'c', b'a', b'l', b'l'])
-}
-
-/// Whether the line begins with the word of a call.
-#[tactic(auto, unfolding(crate::specs::Said::is_call_line))]
-pub fn is_call_line(line: &[u8]) -> bool
-    ensures { result ≡ is_call_line line.now }
-{
-    let mut fields = Fields::new(line);
-    match fields.next() {
-        None => false,
-        Some(word) => is_call_word(word),
+    match line {
+        [b'c', b'a', b'l', b'l', b' ', rest @ ..] => Some(rest),
+        _ => None,
     }
 }
 
-/// The call of a line below the third that begins with its word.
-pub fn read_call_line(draft: &Draft, left: &Open, line: &[u8]) -> Result<SaidCall, TableReason>
-    requires { is_call_line line.now ≡ true }
-    ensures value { (region : List ℕ) → called result ≡ entry_said region left.now (fields_of line.now) }
-    ensures within { IfOk result (λ said. IsOffset said.call.arrives × IsOffset said.call.departs) }
-    ensures stands { IfOk result (λ said. GoesOnFrom left.now said.call) }
+/// The call of a line below the third, where this stands behind its word.
+pub fn read_call_line<'a>(
+    draft: &Draft,
+    left: &Open,
+    rest: &'a [u8],
+) -> Result<SaidCall<'a>, TableReason>
+    ensures value { (region : List ℕ) → called result ≡ entry_said region left.now (codes "call" ∷ fields_of rest.now) }
+    ensures within { IfOk result (λ said. IsOffset said.arrives × IsOffset said.departs) }
+    ensures stands { IfOk result (λ said. GoesOnFrom left.now (call_of said)) }
     ensures place { IfOk result (IsLookedUp draft.now.places) }
-    ensures known { IfOk result (λ said. is_some said.place ≡ has_place draft.now said.call.stop) }
+    ensures known { IfOk result (λ said. is_some said.place ≡ has_place draft.now said.stop.now) }
 {
-    let mut fields = Fields::new(line);
-    let _ = fields.next();
+    let mut fields = Fields::new(rest);
     read_call_fields(draft, left, &mut fields)
 }
 
+// The call that a line says.
+fn call_of(said: &SaidCall<'_>) -> Call
+    requires { IsTrue (is_stop_ref said.now.stop.now) }
+    ensures { result ≡ call_of said.now }
+{
+    match StopRef::from_bytes(said.stop) {
+        Some(stop) => Call {
+            stop,
+            arrives: said.arrives,
+            departs: said.departs,
+        },
+        None => unreachable!(),
+    }
+}
+
 // A call as a line.
-fn call_line(read: Result<SaidCall, TableReason>) -> Result<Line, TableReason>
-    ensures { result ≡ called read }
+fn call_line(read: Result<SaidCall<'_>, TableReason>) -> Result<Line, TableReason>
+    requires { IfOk read (λ said. IsTrue (is_stop_ref said.stop.now)) }
+    ensures { result ≡ called read.entry }
 {
     match read {
-        Ok(said) => Ok(Line::Call(said.call)),
+        Ok(said) => Ok(Line::Call(call_of(&said))),
         Err(reason) => Err(reason),
     }
 }

@@ -7,10 +7,6 @@ use Rattle.ojp_timetable.proofs.stops.Stops.read.Goals as goal
 pub stop_at-stop-requires : goal.stop_at-stop-requires
 stop_at-stop-requires c = number-low c.args.self.now.places c.args.text.now c.in-Some.number (sym c.number_of.ensures.first ∙ c.in-Some.is)
 
-pub returns-in-Some-clause-value : goal.returns-in-Some-clause-value
-returns-in-Some-clause-value c =
-    c.stop_at-stop.ensures ∙ number-stop c.args.self.now.places c.args.text.now c.in-Some.number (sym c.number_of.ensures.first ∙ c.in-Some.is)
-
 pub returns-in-Some-clause-exact : goal.returns-in-Some-clause-exact
 returns-in-Some-clause-exact c =
     let is : c.stop_at-stop.result ≡ c.args.text.now =
