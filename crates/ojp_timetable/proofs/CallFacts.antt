@@ -1,6 +1,6 @@
 -- Where a call may stand by its texts, it may stand by its times.
-use Rattle.std.proofs.Common.{◌≡◌, ℕ, ◌≤◌, ◌<◌, ◌==◌, Bool, true, false, not, ◌&&◌, cond, List, [], ◌∷◌, drop, codes, refl, sym, ap, ◌∙◌, subst, true≢false, arith, inl, inr, Bor}
-use Rattle.std.specs.Prelude.{Option, Some, None, Result, Ok, Err, IsSome, IfOk, IsErrAnd, MatchOption}
+use Rattle.std.proofs.Common.{◌≡◌, ℕ, ◌≤◌, ◌<◌, ◌==◌, Bool, true, false, not, ◌&&◌, cond, List, ◌∷◌, codes, refl, sym, ap, ◌∙◌, subst, true≢false, arith, inl, inr}
+use Rattle.std.specs.Prelude.{Option, Some, None, Result, Ok, Err, IsSome, IfOk, IsErrAnd}
 use Rattle.std.proofs.lemmas.Bool.{cases_Bool, eqb-true}
 use Rattle.ojp_values.specs.Texts.{Text, same}
 use Rattle.ojp_zones.specs.Numbers.{number}
@@ -13,6 +13,7 @@ use Rattle.ojp_timetable.specs.Kept.{HasNumber, IsKeptByNumber, IsLookedUp, call
 use Rattle.ojp_timetable.specs.WellContents.{GoesOnFrom}
 use Rattle.ojp_timetable.specs.declared.kept.KeptCall.{KeptCall}
 use Rattle.ojp_timetable.specs.declared.kept.SaidCall.{SaidCall}
+use Rattle.ojp_timetable.specs.declared.file.lines.Line.{Line as AnyLine}
 use Rattle.ojp_timetable.specs.declared.file.lines.Line.TheVariants as Line
 use Rattle.ojp_timetable.specs.declared.file.lines.TableReason.{TableReason}
 use Rattle.ojp_timetable.specs.declared.file.words.Word.{Word}
@@ -88,12 +89,12 @@ unfolding read_line
 call_fails above text reason low says =
     ap (checked above text) (says above.contents.region ∙ sym (below_third above.lines above.contents.region above.left (body text) low))
 
-pub call_checked : (above : Above) (text : Text) (call : Call) (long : Bool) (failing : Option TableReason) → 3 ≤ above.lines
-    → ((region : Text) → Ok (Line.Call call) ≡ entry_said region above.left (fields_of (body text))) → long ≡ is_long above text
-    → failing ≡ first_failing (checks above.contents above.left long (Line.Call call)) → verdict (Line.Call call) failing ≡ read_line above text
+pub line_checked : (above : Above) (text : Text) (line : AnyLine) (long : Bool) (failing : Option TableReason) → 3 ≤ above.lines
+    → ((region : Text) → Ok line ≡ entry_said region above.left (fields_of (body text))) → long ≡ is_long above text
+    → failing ≡ first_failing (checks above.contents above.left long line) → verdict line failing ≡ read_line above text
 unfolding read_line
-call_checked above text call long failing low says e f =
-    ap (verdict (Line.Call call)) (f ∙ ap (λ (b : Bool). first_failing (checks above.contents above.left b (Line.Call call))) e)
+line_checked above text line long failing low says e f =
+    ap (verdict line) (f ∙ ap (λ (b : Bool). first_failing (checks above.contents above.left b line)) e)
     ∙ ap (checked above text) (says above.contents.region ∙ sym (below_third above.lines above.contents.region above.left (body text) low))
 
 -- a failed reading says its reason

@@ -9,6 +9,7 @@ pub mod MarkFacts
 pub mod MapFacts
 pub mod StopFacts
 pub mod CallFacts
+pub mod JourneyFacts
 pub mod CallRowFacts
 pub mod KeptFacts
 pub mod PointFacts

@@ -12,6 +12,8 @@ use Rattle.ojp_timetable.specs.Tables.{Call, Place}
 use Rattle.ojp_timetable.specs.Kept.{call_kept}
 use Rattle.ojp_timetable.specs.declared.kept.KeptCall.{KeptCall}
 use Rattle.ojp_timetable.specs.declared.kept.SaidCall.{SaidCall}
+use Rattle.ojp_timetable.specs.declared.kept.SaidJourney.{SaidJourney}
+use Rattle.ojp_timetable.specs.declared.kept.FoundJourney.{FoundJourney}
 use Rattle.ojp_timetable.specs.declared.file.lines.Line.{Line}
 use Rattle.ojp_timetable.specs.declared.file.lines.Line.TheVariants as lines
 use Rattle.ojp_timetable.specs.declared.file.lines.Open.{Open}
@@ -116,6 +118,20 @@ called (Err reason) = Err reason
 abbrev pub kept_said : List Place → Result KeptCall TableReason → Said
 kept_said places (Ok kept) = Ok (lines.Call (call_kept places kept))
 kept_said places (Err reason) = Err reason
+
+-- the line of a journey with these labels
+abbrev pub journey_line : SaidJourney → Line
+journey_line said = lines.Journey said.id said.service said.line
+
+-- what the line of a journey says, as what a line says
+abbrev pub journeyed : Result SaidJourney TableReason → Said
+journeyed (Ok said) = Ok (journey_line said)
+journeyed (Err reason) = Err reason
+
+-- and so of a journey with the number of its service
+abbrev pub numbered : Result FoundJourney TableReason → Said
+numbered (Ok found) = Ok (journey_line found.said)
+numbered (Err reason) = Err reason
 
 -- ---- the form of a line
 

@@ -357,21 +357,36 @@ impl Draft {
         Ok(())
     }
 
-    /// Declares a journey, whose calls follow.
-    pub fn add_journey(&mut self, id: &Label, service: &Label, line: &Label) -> Result<(), NoMemory>
+    /// Declares a journey of the service of that number, whose calls follow.
+    pub fn add_journey_of(
+        &mut self,
+        id: &Label,
+        line: &Label,
+        service: usize,
+    ) -> Result<(), NoMemory>
         requires { has_journey self.old id.now ≡ false }
-        ensures value { OnOk result (self.new ≡ grown self.old (Line.Journey id.now service.now line.now)) }
+        ensures value { OnOk result (self.new ≡ record self.old { journeys = self.old.journeys ++ record { id = id.now; line = line.now; service = service; calls = [] } ∷ [] }) }
         ensures kept { (self.new.region ≡ self.old.region) × (self.new.zone ≡ self.old.zone) }
     {
         let head = Head {
             line: *line,
-            service: self.service_number(service).unwrap_or(0),
+            service,
             first_call: self.stops.calls(),
         };
         let Ok(_) = self.journeys.insert(*id, head) else {
             return Err(NoMemory);
         };
         Ok(())
+    }
+
+    /// Declares a journey, whose calls follow.
+    pub fn add_journey(&mut self, id: &Label, service: &Label, line: &Label) -> Result<(), NoMemory>
+        requires { has_journey self.old id.now ≡ false }
+        ensures value { OnOk result (self.new ≡ grown self.old (Line.Journey id.now service.now line.now)) }
+        ensures kept { (self.new.region ≡ self.old.region) × (self.new.zone ≡ self.old.zone) }
+    {
+        let number = self.service_number(service).unwrap_or(0);
+        self.add_journey_of(id, line, number)
     }
 
     /// Adds a call, as it is kept, to the last journey.

@@ -44,6 +44,21 @@ pub struct KeptCall {
     pub departs: Option<u32>,
 }
 
+/// The labels that the line of a journey says: its own, that of its service and that of its line.
+#[derive(Clone, Copy, Debug)]
+pub struct SaidJourney {
+    pub id: Label,
+    pub service: Label,
+    pub line: Label,
+}
+
+/// A journey that a line says, with the number of its service.
+#[derive(Clone, Copy, Debug)]
+pub struct FoundJourney {
+    pub said: SaidJourney,
+    pub service: usize,
+}
+
 /// A journey: its label, its line, the number of its service, and how many calls it has.
 #[derive(Clone, Copy, Debug, PartialEq, Eq)]
 pub struct JourneyView {

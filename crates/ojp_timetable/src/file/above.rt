@@ -1,18 +1,22 @@
 //! The lines above the next one.
-ghost use Rattle.std.specs.Prelude.{◌≡◌, ◌+◌, ◌<◌, ◌≤◌, ◌^◌, ◌∷◌, None, Some, false, true, codes, length, OnOk, IfOk, IfErr, IsSome};
+ghost use Rattle.std.specs.Prelude.{◌≡◌, ◌+◌, ◌<◌, ◌≤◌, ◌^◌, ◌∷◌, None, Some, false, true, codes, length, OnOk, IfOk, IfErr, IsSome, unwrap_or};
 ghost use Rattle.ojp_timetable.specs.Fields.{body, fields_of};
 ghost use Rattle.ojp_timetable.specs.Runs.{IsOffset};
 ghost use Rattle.ojp_timetable.specs.Kept.{IsKeptByNumber, call_kept};
-ghost use Rattle.ojp_timetable.specs.Said.{kept_said};
+ghost use Rattle.ojp_timetable.specs.Contents.{service_number};
+ghost use Rattle.ojp_timetable.specs.Said.{is_closed, journey_line, kept_said, numbered};
 ghost use Rattle.ojp_zones.specs.Noons.{IsZone};
 
 use crate::draft::Draft;
-use crate::file::checks::{first_failing, first_failing_of_call};
+use crate::file::checks::{first_failing, first_failing_of_call, first_failing_of_journey};
 use crate::file::fields::body;
 use crate::file::lines::{Line, Open, TableReason};
 use crate::file::refusals::{LineRefused, TableRefused};
-use crate::file::said::{behind_call, is_closed, left_by, left_open, read_call_line, read_said};
-use crate::kept::{KeptCall, SaidCall};
+use crate::file::said::{
+    behind_call, behind_journey, is_closed, left_by, left_open, read_call_line, read_journey_line,
+    read_said,
+};
+use crate::kept::{FoundJourney, KeptCall, SaidCall};
 use ojp_outside::FILE_LIMIT;
 use std::alloc::Global;
 use std::marker::Model;
@@ -175,6 +179,58 @@ impl Above {
         Ok(())
     }
 
+    // The journey that the line says with the number of its service, or the first check that it fails, where this
+    // stands behind its word.
+    #[tactic(auto, unfolding(crate::specs::Checks::read_line))]
+    fn read_journey(&self, text: &[u8], rest: &[u8]) -> Result<FoundJourney, TableReason>
+        requires below { 3 ≤ self.now.lines }
+        requires journey { fields_of (body text.now) ≡ codes "journey" ∷ fields_of rest.now }
+        ensures value { numbered result ≡ read_line self.now text.now }
+        ensures stands { OnOk result (is_closed self.now.left ≡ true) }
+        ensures passes { IfOk result (λ found. Passes self.now.contents self.now.left (journey_line found.said)) }
+        ensures service { IfOk result (λ found. found.service ≡ unwrap_or (service_number self.now.contents found.said.service) 0) }
+        ensures short { OnOk result (self.now.bytes + length text.now ≤ BYTES) }
+    {
+        let said = read_journey_line(&self.left, rest)?;
+        let service = self.draft.service_number(&said.service);
+        let is_known = service.is_some();
+        let is_long = self.is_long(text);
+        match first_failing_of_journey(&self.draft, is_long, is_known, &said) {
+            None => Ok(FoundJourney {
+                said,
+                service: service.unwrap_or(0),
+            }),
+            Some(reason) => Err(reason),
+        }
+    }
+
+    // Takes a line of a journey, where this stands behind its word.
+    fn take_journey(&mut self, alloc: Global, text: &[u8], rest: &[u8]) -> Result<(), LineRefused>
+        requires room { self.old.lines + 1 < 2 ^ 64 }
+        requires below { 3 ≤ self.old.lines }
+        requires journey { fields_of (body text.now) ≡ codes "journey" ∷ fields_of rest.now }
+        ensures taken { OnOk result (self.new ≡ with_line self.old text.now) }
+        ensures passed { OnOk result (reason_of (read_line self.old text.now) ≡ None) }
+        ensures refused { IfErr result (IsLineRefusal (read_line self.old text.now)) }
+        ensures left { IfErr result (λ refused. self.new ≡ left_after self.old refused) }
+    {
+        let found = match self.read_journey(text, rest) {
+            Ok(found) => found,
+            Err(reason) => return Err(LineRefused::Reason(reason)),
+        };
+        let Ok(()) = self
+            .draft
+            .add_journey_of(&found.said.id, &found.said.line, found.service)
+        else {
+            *self = Above::new(alloc);
+            return Err(LineRefused::NoMemory);
+        };
+        self.lines += 1;
+        self.bytes += text.len() as u64;
+        self.left = Open::Begun;
+        Ok(())
+    }
+
     // Takes a line of any kind.
     fn take_line(&mut self, alloc: Global, text: &[u8]) -> Result<(), LineRefused>
         requires { self.old.lines + 1 < 2 ^ 64 }
@@ -209,6 +265,9 @@ impl Above {
         if self.lines >= 3 {
             if let Some(rest) = behind_call(body(text)) {
                 return self.take_call(alloc, text, rest);
+            }
+            if let Some(rest) = behind_journey(body(text)) {
+                return self.take_journey(alloc, text, rest);
             }
         }
         self.take_line(alloc, text)

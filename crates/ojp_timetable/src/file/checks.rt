@@ -3,15 +3,15 @@ ghost use Rattle.std.specs.Prelude.{◌≡◌, ◌≤◌, false, None, [], is_so
 ghost use Rattle.std.specs.List.{list_any, position, position_or_len};
 ghost use Rattle.ojp_values.specs.Texts.{code_part, is_colon, is_x, same};
 ghost use Rattle.ojp_values.specs.declared.trips.Neighbour.{Neighbour as NeighbourValue};
-ghost use Rattle.ojp_timetable.specs.Contents.{has_place};
+ghost use Rattle.ojp_timetable.specs.Contents.{has_place, has_service};
 ghost use Rattle.ojp_timetable.specs.WellContents.{Passes};
-ghost use Rattle.ojp_timetable.specs.Said.{call_of};
+ghost use Rattle.ojp_timetable.specs.Said.{call_of, journey_line};
 ghost use Rattle.ojp_timetable.specs.Checks.{checks, departed, falls_from, first_failing, has_neighbour, is_before, is_doubled, is_falling, is_foreign, is_full, is_stop_elsewhere, lacks_service, lacks_stop, later_of};
 
 use crate::draft::Draft;
 use crate::file::fields::is_same;
 use crate::file::lines::{Line, Open, TableReason};
-use crate::kept::SaidCall;
+use crate::kept::{SaidCall, SaidJourney};
 use ojp_values::{Code, Neighbour, StopRef};
 
 // Where the first colon stands.
@@ -216,6 +216,32 @@ pub fn first_failing(draft: &Draft, left: &Open, is_long: bool, line: &Line) -> 
         return Some(TableReason::FallingTimes);
     }
     if is_full(draft, line) || is_long {
+        return Some(TableReason::Limit);
+    }
+    None
+}
+
+/// The first check that a journey fails, as `first_failing` says it of its line; `is_known` says whether its service
+/// stands above.
+#[tactic(auto, unfolding(crate::specs::Checks::is_foreign, crate::specs::Checks::is_doubled, crate::specs::Checks::lacks_stop, crate::specs::Checks::lacks_service, crate::specs::Checks::is_falling, crate::specs::Checks::is_full))]
+pub fn first_failing_of_journey(
+    draft: &Draft,
+    is_long: bool,
+    is_known: bool,
+    said: &SaidJourney,
+) -> Option<TableReason>
+    requires { is_known ≡ has_service draft.now said.now.service }
+    ensures value { (left : Open) → result ≡ first_failing (checks draft.now left is_long (journey_line said.now)) }
+    ensures passes { (left : Open) → result ≡ None → Passes draft.now left (journey_line said.now) }
+    ensures short { result ≡ None → is_long ≡ false }
+{
+    if draft.has_journey(&said.id) {
+        return Some(TableReason::DoubledName);
+    }
+    if !is_known {
+        return Some(TableReason::UnknownService);
+    }
+    if draft.journeys() >= JOURNEYS || is_long {
         return Some(TableReason::Limit);
     }
     None

@@ -1,5 +1,5 @@
 //! Reading what a line says.
-ghost use Rattle.std.specs.Prelude.{◌≡◌, ◌≤◌, ◌↔◌, true, false, IsTrue, IsSome, IfSome, MatchOption, IfOk, ◌∷◌, [], List, ℕ, codes, is_some};
+ghost use Rattle.std.specs.Prelude.{◌≡◌, ◌≤◌, ◌↔◌, true, false, IsTrue, IsSome, IfSome, MatchOption, IfOk, OnOk, ◌∷◌, [], List, ℕ, codes, is_some};
 ghost use Rattle.std.specs.List.{list_all};
 ghost use Rattle.ojp_values.specs.Texts.{is_stop_ref, same};
 ghost use Rattle.ojp_values.specs.declared.moments.TheConstants.{FIRST_DAY, LAST_DAY};
@@ -9,7 +9,7 @@ ghost use Rattle.ojp_timetable.specs.Contents.{has_place};
 ghost use Rattle.ojp_timetable.specs.Kept.{IsLookedUp};
 ghost use Rattle.ojp_timetable.specs.WellContents.{GoesOnFrom, MayStand, MayStandClosed};
 ghost use Rattle.ojp_timetable.specs.Fields.{fields_of, IsNotThree, IsNotTwo};
-ghost use Rattle.ojp_timetable.specs.Said.{are_marks, call_fields, call_of, call_said, called, day_of, entry_said, header_said, is_closed, is_dash, is_mark, is_offset, journey_fields, journey_said, marks_of, may_call, neighbour_fields, neighbour_said, offset, place_fields, place_said, region_said, said, service_fields, service_said, word_fields, zone_said};
+ghost use Rattle.ojp_timetable.specs.Said.{are_marks, call_fields, call_of, call_said, called, day_of, entry_said, header_said, is_closed, is_dash, is_mark, is_offset, journey_fields, journey_said, journeyed, marks_of, may_call, neighbour_fields, neighbour_said, offset, place_fields, place_said, region_said, said, service_fields, service_said, word_fields, zone_said};
 
 use crate::calls::Call;
 use crate::draft::Draft;
@@ -17,7 +17,7 @@ use crate::file::fields::{Fields, is_same};
 use crate::file::lines::{Dates, Line, Open, TableReason};
 use crate::file::read_words::word_of;
 use crate::file::words::Word;
-use crate::kept::SaidCall;
+use crate::kept::{SaidCall, SaidJourney};
 use ojp_values::{Code, Day, Label, Name, Neighbour, StopRef};
 use ojp_zones::numbers::read_number;
 use ojp_zones::zone_text::read_zone;
@@ -139,11 +139,9 @@ fn read_service(id: &[u8], first: &[u8], last: &[u8], marks: &[u8]) -> Result<Li
     Ok(Line::Service(id, Dates { first, last, marks }))
 }
 
-// A journey with its service and its line.
-fn read_journey(id: &[u8], service: &[u8], line: &[u8]) -> Result<Line, TableReason>
-    ensures value { result ≡ journey_said id.now service.now line.now }
-    ensures well { IfOk result (IsWellLine 3) }
-    ensures stands { IfOk result MayStandClosed }
+// The labels of a journey, of its service and of its line.
+fn read_labels(id: &[u8], service: &[u8], line: &[u8]) -> Result<SaidJourney, TableReason>
+    ensures { journeyed result ≡ journey_said id.now service.now line.now }
 {
     let Some(id) = Label::from_bytes(id) else {
         return Err(TableReason::Value);
@@ -154,7 +152,7 @@ fn read_journey(id: &[u8], service: &[u8], line: &[u8]) -> Result<Line, TableRea
     let Some(line) = Label::from_bytes(line) else {
         return Err(TableReason::Value);
     };
-    Ok(Line::Journey(id, service, line))
+    Ok(SaidJourney { id, service, line })
 }
 
 // Whether the text is `-`.
@@ -313,15 +311,26 @@ fn read_service_fields(fields: &mut Fields<'_>) -> Result<Line, TableReason>
     }
 }
 
+// The labels behind `journey`.
+#[inline(always)]
+fn read_label_fields(fields: &mut Fields<'_>) -> Result<SaidJourney, TableReason>
+    ensures { journeyed result ≡ journey_fields fields.old }
+{
+    match three(fields) {
+        Some((id, service, line)) => read_labels(id, service, line),
+        None => Err(TableReason::LineForm),
+    }
+}
+
 // The fields behind `journey`.
 fn read_journey_fields(fields: &mut Fields<'_>) -> Result<Line, TableReason>
     ensures value { result ≡ journey_fields fields.old }
     ensures well { IfOk result (IsWellLine 3) }
     ensures stands { IfOk result MayStandClosed }
 {
-    match three(fields) {
-        Some((id, service, line)) => read_journey(id, service, line),
-        None => Err(TableReason::LineForm),
+    match read_label_fields(fields) {
+        Ok(said) => Ok(Line::Journey(said.id, said.service, said.line)),
+        Err(reason) => Err(reason),
     }
 }
 
@@ -359,6 +368,28 @@ pub fn behind_call(line: &[u8]) -> Option<&[u8]>
         [b'c', b'a', b'l', b'l', b' ', rest @ ..] => Some(rest),
         _ => None,
     }
+}
+
+/// What stands behind the word of a journey, where the line begins with it and a space.
+pub fn behind_journey(line: &[u8]) -> Option<&[u8]>
+    ensures { IfSome result (λ rest. fields_of line.now ≡ codes "journey" ∷ fields_of rest.now) }
+{
+    match line {
+        [b'j', b'o', b'u', b'r', b'n', b'e', b'y', b' ', rest @ ..] => Some(rest),
+        _ => None,
+    }
+}
+
+/// The journey of a line below the third, where this stands behind its word.
+pub fn read_journey_line(left: &Open, rest: &[u8]) -> Result<SaidJourney, TableReason>
+    ensures value { (region : List ℕ) → journeyed result ≡ entry_said region left.now (codes "journey" ∷ fields_of rest.now) }
+    ensures stands { OnOk result (is_closed left.now ≡ true) }
+{
+    if !is_closed(left) {
+        return Err(TableReason::LineForm);
+    }
+    let mut fields = Fields::new(rest);
+    read_label_fields(&mut fields)
 }
 
 /// The call of a line below the third, where this stands behind its word.

@@ -1,43 +1,12 @@
-use Rattle.std.proofs.Common.{◌≡◌, sym, ◌∙◌, ap, refl, ◌++◌, ◌∷◌, [], subst, length, List, ℕ}
-use Rattle.std.specs.Prelude.{Option, unwrap_or}
-use Rattle.indexmap.proofs.CallerLemmas.{insert_entry-new}
-use Rattle.ojp_values.specs.Texts.{Text, same}
-use Rattle.ojp_timetable.specs.Tables.{Journey}
-use Rattle.ojp_timetable.specs.Contents.{Contents, has_journey, service_number}
-use Rattle.ojp_timetable.specs.Kept.{AreInRow, journeys_of}
-use Rattle.ojp_timetable.specs.declared.kept.Head.{Head}
-use Rattle.ojp_timetable.proofs.CallRowFacts.{absent_journey, head-row, in_row-head}
+use Rattle.std.proofs.Common.{◌≡◌, ◌∙◌, ◌++◌, ◌∷◌, [], ap, subst, ℕ}
+use Rattle.std.specs.Prelude.{OnOk, Option, unwrap_or}
+use Rattle.ojp_timetable.specs.Contents.{Contents}
 use Rattle.ojp_timetable.proofs.draft.Draft.add_journey.Goals as goal
 
-pub invariant_of-self-2 : goal.invariant_of-self-2
-unfolding has_journey same
-invariant_of-self-2 c =
-    let m = c.self.inside.journeys in
-    let none = absent_journey _ c.args.id.now (λ _. refl) m.entries c.self.inside.stops.calls (ap (λ (contents : Contents). has_journey contents c.args.id.now) c.self.view_is ∙ c.requires) in
-    let entries = c.in-Ok.ensures.entries ∙ insert_entry-new _ m c.args.id.now _ none in
-    subst (λ (es : List (Text × Head)). AreInRow es (length c.self.inside.stops.calls)) (sym entries) (in_row-head m.entries (length c.self.inside.stops.calls) _ c.calls.ensures c.self.invariant)
-
 pub returns-clause-value : goal.returns-clause-value
-unfolding has_journey same
 returns-clause-value c =
-    let v = c.self.view_is in
-    let m = c.self.inside.journeys in
-    let calls = c.self.inside.stops.calls in
-    let none = absent_journey _ c.args.id.now (λ _. refl) m.entries calls (ap (λ (contents : Contents). has_journey contents c.args.id.now) v ∙ c.requires) in
-    let entries = c.in-Ok.ensures.entries ∙ insert_entry-new _ m c.args.id.now _ none in
-    let service : c.unwrap_or.result ≡ unwrap_or (service_number c.args.self.now c.args.service.now) 0 =
-    c.unwrap_or.ensures ∙ ap (λ (found : Option ℕ). unwrap_or found 0) c.service_number.ensures in
-    let journey : ℕ → Journey = λ n. record { id = c.args.id.now; line = c.args.line.now; service = n; calls = [] } in
-    let journeys : journeys_of c.insert.new.self.entries calls ≡ c.args.self.now.journeys ++ journey (unwrap_or (service_number c.args.self.now c.args.service.now) 0) ∷ [] =
-    ap (λ (es : List (Text × Head)). journeys_of es calls) entries
-    ∙ (head-row m.entries calls _ c.calls.ensures c.self.invariant
-    ∙ (ap (λ (n : ℕ). journeys_of m.entries calls ++ journey n ∷ []) service
-    ∙ ap (λ (contents : Contents). contents.journeys ++ journey (unwrap_or (service_number c.args.self.now c.args.service.now) 0) ∷ []) v)) in
-    λ i. record {
-      region = (v i).region;
-      zone = (v i).zone;
-      places = (v i).places;
-      points = (v i).points;
-      services = (v i).services;
-      journeys = journeys i;
-    }
+    let now : Contents = c.args.self.now in
+    subst (λ (n : ℕ). OnOk c.add_journey_of.result (c.add_journey_of.new.self ≡ record now {
+      journeys = now.journeys ++ record { id = c.args.id.now; line = c.args.line.now; service = n; calls = [] } ∷ [];
+    }))
+    (c.unwrap_or-number.ensures ∙ ap (λ (found : Option ℕ). unwrap_or found 0) c.service_number.ensures) c.add_journey_of.ensures.value

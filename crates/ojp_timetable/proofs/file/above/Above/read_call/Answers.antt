@@ -7,7 +7,7 @@ use Rattle.ojp_timetable.specs.Said.{call_of, entry_said}
 use Rattle.ojp_timetable.specs.Tables.{Call}
 use Rattle.ojp_timetable.specs.WellContents.{GoesOnFrom, Passes}
 use Rattle.ojp_timetable.specs.declared.file.lines.Line.TheVariants as lines
-use Rattle.ojp_timetable.proofs.CallFacts.{call_checked, call_fails, failed_kept, kept_is, kept_number, looked_number}
+use Rattle.ojp_timetable.proofs.CallFacts.{call_fails, failed_kept, kept_is, kept_number, line_checked, looked_number}
 use Rattle.ojp_timetable.proofs.file.above.Above.read_call.Goals as goal
 
 pub returns-in_err-said-clause-value : goal.returns-in_err-said-clause-value
@@ -30,7 +30,7 @@ returns-in-None-clause-value c =
     kept_is s.draft.places (call_of said) kept (looked_number s.draft.places said kept c.in_ok-said.ensures.place c.kept.ensures.place) c.kept.ensures.times.0 c.kept.ensures.times.1 in
     ap (λ (a : Above). Ok (lines.Call (call_kept a.contents.places kept))) (sym c.self.view_is)
     ∙ (ap (λ (call : Call). Ok (lines.Call call)) is
-    ∙ (call_checked above text (call_of said) c.is_long-is_long.result None (subst (λ (a : Above). 3 ≤ a.lines) (sym c.self.view_is) c.requires.below)
+    ∙ (line_checked above text (lines.Call (call_of said)) c.is_long-is_long.result None (subst (λ (a : Above). 3 ≤ a.lines) (sym c.self.view_is) c.requires.below)
     (λ region. c.in_ok-said.ensures.value region ∙ ap (entry_said region s.left) (sym c.requires.call))
     (subst (λ (a : Above). c.is_long-is_long.result ≡ is_long a text) (sym c.self.view_is) c.is_long-is_long.ensures.value) c.in-None.ensures.value
     ∙ ap (λ (a : Above). read_line a text) c.self.view_is))
@@ -40,7 +40,7 @@ returns-in-Some-clause-value c =
     let s = c.self.inside in
     let text = c.args.text.now in
     let above : Above = record { lines = s.lines; bytes = s.bytes; left = s.left; contents = s.draft } in
-    call_checked above text (call_of c.in_ok-said.said) c.is_long-is_long.result (Some c.in-Some.reason) (subst (λ (a : Above). 3 ≤ a.lines) (sym c.self.view_is) c.requires.below)
+    line_checked above text (lines.Call (call_of c.in_ok-said.said)) c.is_long-is_long.result (Some c.in-Some.reason) (subst (λ (a : Above). 3 ≤ a.lines) (sym c.self.view_is) c.requires.below)
     (λ region. c.in_ok-said.ensures.value region ∙ ap (entry_said region s.left) (sym c.requires.call))
     (subst (λ (a : Above). c.is_long-is_long.result ≡ is_long a text) (sym c.self.view_is) c.is_long-is_long.ensures.value) c.in-Some.ensures.value
     ∙ ap (λ (a : Above). read_line a text) c.self.view_is
