@@ -18,7 +18,8 @@ impl<'a> Model for Fields<'a> {
     ghost view = { λ s. fields_left (option_map (λ rest. rest.now) s.rest) };
 }
 
-// Where the first space stands.
+// Where the first space stands. Inlined, its loop would want for registers.
+#[inline(never)]
 fn first_space(text: &[u8]) -> Option<usize>
     ensures { result ≡ position (λ b. b == 32) text.now }
 {

@@ -163,7 +163,8 @@ fn is_dash(text: &[u8]) -> bool
     matches!(text, [b'-'])
 }
 
-// An offset or `-`; the outer `None` where the text is neither.
+// An offset or `-`; the outer `None` where the text is neither. Inlined, its loops would want for registers.
+#[inline(never)]
 #[tactic(auto, unfolding(crate::specs::Said::is_offset, crate::specs::Said::offset))]
 fn read_offset(text: &[u8]) -> Option<Option<u32>>
     ensures exact { IsSome result ↔ IsTrue (is_offset text.now) }
