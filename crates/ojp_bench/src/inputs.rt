@@ -32,11 +32,11 @@ pub struct Inputs {
 
 impl Inputs {
     pub fn new(alloc: Global) -> Option<Inputs> {
-        let delivery = delivery(alloc)?;
-        let spelled = spelled(alloc, &delivery)?;
         let body = Vec::from_elem(alloc, b'a', BODY).ok()?;
         let by_length = request(alloc, b"AA", &body).ok()?.into_items();
         let in_chunks = in_chunks(alloc, &body)?;
+        let delivery = delivery(alloc)?;
+        let spelled = spelled(alloc, &delivery)?;
         Some(Inputs {
             delivery,
             spelled,

@@ -44,10 +44,12 @@ fn list_of(alloc: Global, text: &[u8]) -> Option<RegionPoints>
     };
     table.is_well();
     let code = table.region();
-    let Ok(points) = points_of(alloc, &table, None) else {
-        return None;
-    };
-    Some(RegionPoints { code, points })
+    let declared = points_of(alloc, &table, None);
+    drop(table);
+    match declared {
+        Ok(points) => Some(RegionPoints { code, points }),
+        Err(_) => None,
+    }
 }
 
 /// Whether the region is one of those that share the point.

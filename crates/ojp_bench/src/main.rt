@@ -44,11 +44,18 @@ fn run(rt: &HostRuntime) -> Option<()> {
 /// Does each work over documents and messages that the name stands for so often.
 fn measure_named(rt: &HostRuntime, name: &str, rounds: u32) -> Option<()> {
     let inputs = Inputs::new(rt.alloc())?;
-    let is_same = is_read_again(rt.alloc(), &inputs)?;
+    let told = measure_over(rt, name, rounds, &inputs);
+    drop(inputs);
+    told
+}
+
+/// Tells whether the delivery is read again, and does each work that the name stands for so often.
+fn measure_over(rt: &HostRuntime, name: &str, rounds: u32, inputs: &Inputs) -> Option<()> {
+    let is_same = is_read_again(rt.alloc(), inputs)?;
     println!(rt; "read again {is_same}").ok()?;
     for work in Work::ALL {
         if name == "all" || name == work.name() {
-            measure(rt, work, rounds, &inputs)?;
+            measure(rt, work, rounds, inputs)?;
         }
     }
     Some(())

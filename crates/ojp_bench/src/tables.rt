@@ -52,7 +52,9 @@ fn scan(rt: &HostRuntime, text: &[u8]) -> Option<()> {
     let Ok(table) = Timetable::read(rt.alloc(), text) else {
         return None;
     };
-    scan_table(rt, &table, begin)
+    let told = scan_table(rt, &table, begin);
+    drop(table);
+    told
 }
 
 /// Makes a scan for the timetable, which was begun to be read at that time, and searches.
@@ -61,11 +63,25 @@ fn scan_table(rt: &HostRuntime, table: &Timetable, begin: Duration) -> Option<()
     let Ok(mut scan) = Scan::new(rt.alloc(), table) else {
         return None;
     };
+    let told = search_table(rt, table, &mut scan, begin, read);
+    drop(scan);
+    told
+}
+
+/// Searches the timetable, which was read from the one time to the other, by its scan, and tells sizes and times.
+fn search_table(
+    rt: &HostRuntime,
+    table: &Timetable,
+    scan: &mut Scan,
+    begin: Duration,
+    read: Duration,
+) -> Option<()>
+    requires { IsMadeFor scan.old table.now }
+{
     let made = now(rt)?;
-    search(table, &mut scan)?;
+    search(table, scan)?;
     let found = now(rt)?;
-    let (journeys, hops) = (table.journeys(), scan.hops());
-    tell_sizes(rt, journeys, hops)?;
+    tell_sizes(rt, table.journeys(), scan.hops())?;
     tell_times(rt, begin, read, made, found)
 }
 
@@ -106,6 +122,13 @@ fn join(rt: &HostRuntime, lists: &[RegionPoints]) -> Option<()>
     let Ok(book) = Book::join(rt.alloc(), lists) else {
         return None;
     };
+    let told = tell_book(rt, &book, begin);
+    drop(book);
+    told
+}
+
+/// Writes how many places the book has, whose joining was begun at that time.
+fn tell_book(rt: &HostRuntime, book: &Book, begin: Duration) -> Option<()> {
     let joining = now(rt)?.saturating_sub(begin).as_micros();
     let places = book.places();
     println!(rt; "places {places}").ok()?;

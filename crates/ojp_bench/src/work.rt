@@ -105,17 +105,38 @@ fn read_in_pieces(alloc: Global, bytes: &[u8], length: usize) -> Option<Doc>
     requires { 0 < length }
 {
     let mut reader = Reader::new(alloc, Want::Delivery);
+    match feed_all(&mut reader, bytes, length) {
+        Some(()) => reader.finish().ok(),
+        None => {
+            drop(reader);
+            None
+        }
+    }
+}
+
+/// Feeds the bytes to the reader in pieces of this length.
+fn feed_all(reader: &mut Reader, bytes: &[u8], length: usize) -> Option<()>
+    requires { 0 < length }
+{
     for piece in bytes.chunks(length) {
         reader.feed(piece).ok()?;
     }
-    reader.finish().ok()
+    Some(())
 }
 
 /// Whether the spelling gives the delivery again, as a whole and byte by byte.
 pub fn is_read_again(alloc: Global, inputs: &Inputs) -> Option<bool> {
-    let at_once = whole(alloc, Want::Delivery, &inputs.spelled).ok()?;
-    let by_bytes = read_in_pieces(alloc, &inputs.spelled, 1)?;
-    Some(at_once == inputs.delivery && by_bytes == inputs.delivery)
+    Some(is_read_whole(alloc, inputs)? && is_read_by_bytes(alloc, inputs)?)
+}
+
+fn is_read_whole(alloc: Global, inputs: &Inputs) -> Option<bool> {
+    let document = whole(alloc, Want::Delivery, &inputs.spelled).ok()?;
+    Some(document == inputs.delivery)
+}
+
+fn is_read_by_bytes(alloc: Global, inputs: &Inputs) -> Option<bool> {
+    let document = read_in_pieces(alloc, &inputs.spelled, 1)?;
+    Some(document == inputs.delivery)
 }
 
 fn read_once(alloc: Global, bytes: &[u8]) -> Option<u64> {
