@@ -115,8 +115,14 @@ fn poll_first<L: Links>(
             subs.push_back_reserved(kept);
             Ok(true)
         }
-        Ok(Step::Over) => Ok(true),
-        Err(NoMemory) => Err(NoMemory),
+        Ok(Step::Over) => {
+            drop(kept);
+            Ok(true)
+        }
+        Err(NoMemory) => {
+            drop(kept);
+            Err(NoMemory)
+        }
     }
 }
 
