@@ -30,7 +30,9 @@ pub(crate) fn ask_server<R: Runtime, L: WaitLinks>(
     ensures rejections { RejectsNoneServed (L.seen links.old) (L.seen links.new) }
 {
     let mut sub = Subreply::begin(alloc, links, 0, ask, false)?;
-    match hear_waiting(rt, links, &mut sub) {
+    let end = hear_waiting(rt, links, &mut sub);
+    drop(sub);
+    match end {
         SubEnd::Heard(delivery) => Ok(delivery),
         SubEnd::Failed => Err(BeginRefused::Failed),
         SubEnd::NoMemory => Err(BeginRefused::NoMemory),

@@ -35,7 +35,9 @@ pub(crate) fn region<'a, R: Wait, O: Sink, F: Store, D: Doors>(
         Ok(table) => table,
         Err(refused) => return Err(failure_of(file, refused)),
     };
-    match serve_at(rt, alloc, &table, listening, output, doors) {
+    let served = serve_at(rt, alloc, &table, listening, output, doors);
+    drop(table);
+    match served {
         Ok(()) => Ok(()),
         Err(NotServed::Memory) => Err(Failure::Memory),
         Err(NotServed::Output) => Err(Failure::Output),
