@@ -1,10 +1,20 @@
 -- What refusals of rows and of files say.
-use Rattle.std.proofs.Common.{◌≡◌, ◌<◌, ℕ, zero, suc, Option, Result, Ok, Err, true, false, arith, subst, sym}
-use Rattle.std.specs.Prelude.{IsTrue, nat_lt}
+use Rattle.std.proofs.Common.{◌≡◌, ◌<◌, ◌⊎◌, ℕ, zero, suc, Option, Some, None, Result, Ok, Err, List, ◌∷◌, length, true, false, arith, refl, subst, sym, ap, inl, inr}
+use Rattle.std.specs.Prelude.{IfSome, IsSomeAnd, IsTrue, nat_lt}
 use Rattle.std.specs.Result.{IfErr, IsErrAnd}
 use Rattle.std.proofs.lemmas.Bool.{false≢true}
-use Rattle.ojp_feed_lines.specs.Folders.{Files, Lacks}
+use Rattle.csv.specs.Reading.{strip_bom}
+use Rattle.ojp_values.specs.Texts.{Text}
+use Rattle.ojp_feed_lines.specs.Causes.{IsCause, IsFor, IsOfText}
+use Rattle.ojp_feed_lines.specs.Columns.{column_name}
+use Rattle.ojp_feed_lines.specs.Folders.{Files, IsOpened, IsTooLong, Lacks}
 use Rattle.ojp_feed_lines.specs.Refusals.{Explains, ExplainsAt, IsMissed, IsNeeded, IsRowRefusal, IsTableRefusal, is_of_row, is_unread}
+use Rattle.ojp_feed_lines.specs.Places.{HoldsZone}
+use Rattle.ojp_feed_lines.specs.Rows.{IsPlace, OfFile, Record}
+use Rattle.ojp_feed_lines.specs.Tables.{HasEnded, HasTaken}
+use Rattle.ojp_feed_lines.specs.declared.columns.Column.TheVariants as columns
+use Rattle.ojp_feed_lines.proofs.StandFacts.{of_file}
+use Rattle.ojp_feed_lines.specs.declared.folder.TheConstants.{MOST_BYTES}
 use Rattle.ojp_feed_lines.specs.declared.files.FeedFile.{FeedFile}
 use Rattle.ojp_feed_lines.specs.declared.files.FeedFile.TheVariants as files
 use Rattle.ojp_feed_lines.specs.declared.refusals.FeedRefused.{FeedRefused}
@@ -24,24 +34,79 @@ row_is_read file (refusals.Unread other) h is = h
 row_is_read file (refusals.At other line reason) h is = false≢true is
 row_is_read file refusals.NoMemory h is = false≢true is
 
--- a reason of a row needs no file that is missing
-of_row : (contents : Option Files) (file : FeedFile) (reason : RowReason) → IsTrue (is_of_row reason) → ExplainsAt contents file reason
-of_row contents file reasons.MissingFile h = absurd (false≢true h)
-of_row contents file (reasons.MissingColumn column) h = tt
-of_row contents file reasons.Width h = tt
-of_row contents file reasons.NotText h = tt
-of_row contents file (reasons.Value column) h = tt
-of_row contents file reasons.TwoZones h = tt
-of_row contents file (reasons.Doubled column) h = tt
-of_row contents file (reasons.Unknown column) h = tt
-of_row contents file reasons.LineForm h = tt
-of_row contents file reasons.Limit h = tt
+-- what holds of the bytes that an opened file has left holds of its told bytes
+of_opened : (contents : Option Files) (file : FeedFile) (remaining : Option Text) (P : Text → Type 0)
+    → IsOpened contents file remaining → IfSome remaining P → OfFile contents file P
+of_opened None file remaining P opened h = tt
+of_opened (Some told) file remaining P opened h = by (told file) opened
+  where
+    by : (named : Option Text) → IsSomeAnd named (λ bytes. remaining ≡ Some bytes) → IsSomeAnd named P
+    by None o = o
+    by (Some bytes) o = rw o at h
 
--- a refusal of a table is explained by any files
-pub table_explained : (contents : Option Files) (file : FeedFile) (e : FeedRefused) → IsTableRefusal file e → Explains contents e
-table_explained contents file (refusals.Unread other) h = tt
-table_explained contents file (refusals.At other line reason) h = of_row contents other reason h.1
-table_explained contents file refusals.NoMemory h = tt
+-- the text of the opened file is the cause
+by_text : (contents : Option Files) (file : FeedFile) (remaining : Option Text) (reason : RowReason) → IsTrue (is_of_row reason)
+    → IsOpened contents file remaining → IfSome remaining (λ bytes. IsCause file reason (strip_bom bytes)) → ExplainsAt contents file reason
+by_text contents file remaining reasons.MissingFile is opened h = absurd (false≢true is)
+by_text contents file remaining (reasons.MissingColumn column) is opened h = λ other. of_opened contents file remaining _ opened h
+by_text contents file remaining reasons.Width is opened h = λ other. of_opened contents file remaining _ opened h
+by_text contents file remaining reasons.NotText is opened h = λ other. of_opened contents file remaining _ opened h
+by_text contents file remaining (reasons.Value column) is opened h = λ other. of_opened contents file remaining _ opened h
+by_text contents file remaining reasons.TwoZones is opened h = λ other. of_opened contents file remaining _ opened h
+by_text contents file remaining (reasons.Doubled column) is opened h = λ other. of_opened contents file remaining _ opened h
+by_text contents file remaining (reasons.Unknown column) is opened h = λ other. of_opened contents file remaining _ opened h
+by_text contents file remaining reasons.LineForm is opened h = λ other. of_opened contents file remaining _ opened h
+by_text contents file remaining reasons.Limit is opened h =
+    λ other.
+    of_file contents file (λ bytes. IsCause file reasons.Limit (strip_bom bytes))
+    (λ bytes. MOST_BYTES < length bytes ⊎ IsCause file reasons.Limit (strip_bom bytes)) (λ bytes many. inr many)
+    (of_opened contents file remaining (λ bytes. IsCause file reasons.Limit (strip_bom bytes)) opened h)
+
+-- what each text that may be told says
+told_text : (remaining : Option Text) (P Q : Text → Type 0) → ((text : Text) → P text → Q text)
+    → IfSome remaining (λ bytes. P (strip_bom bytes)) → IfSome remaining (λ bytes. Q (strip_bom bytes))
+told_text None P Q f h = h
+told_text (Some bytes) P Q f h = f (strip_bom bytes) h
+
+-- a refusal of an opened file
+pub opened_explained : (contents : Option Files) (file : FeedFile) (remaining : Option Text) (P : Text → Type 0) (e : FeedRefused)
+    → IsOpened contents file remaining → IfSome remaining (λ bytes. P (strip_bom bytes)) → ((text : Text) → P text → IsOfText file text e)
+    → IsTableRefusal file e → Explains contents e
+opened_explained contents file remaining P (refusals.Unread other) opened read why h = tt
+opened_explained contents file remaining P (refusals.At other line reason) opened read why h =
+    subst (λ (f : FeedFile). ExplainsAt contents f reason) (sym h.0)
+    (by_text contents file remaining reason h.1 opened (told_text remaining P (IsCause file reason) why read))
+opened_explained contents file remaining P refusals.NoMemory opened read why h = tt
+
+-- a file that is too long
+pub long_explained : (contents : Option Files) (file : FeedFile) (e : FeedRefused)
+    → IsTooLong contents file → IsTableRefusal file e → IsFor reasons.Limit e → Explains contents e
+long_explained contents file (refusals.Unread other) long h is = tt
+long_explained contents file (refusals.At other line reason) long h is =
+    subst (λ (f : FeedFile). ExplainsAt contents f reason) (sym h.0)
+    (subst (λ (r : RowReason). ExplainsAt contents file r) (sym is)
+    (λ other1.
+    of_file contents file (λ bytes. MOST_BYTES < length bytes) (λ bytes. MOST_BYTES < length bytes ⊎ IsCause file reasons.Limit (strip_bom bytes))
+    (λ bytes more. inl more) long))
+long_explained contents file refusals.NoMemory long h is = tt
+
+-- a reason of the operator's file needs no told one
+of_operator : (contents : Option Files) (file : FeedFile) (reason : RowReason) → file ≡ files.Operator → IsTrue (is_of_row reason) → ExplainsAt contents file reason
+of_operator contents file reasons.MissingFile is h = absurd (false≢true h)
+of_operator contents file (reasons.MissingColumn column) is h = λ other. absurd (other is)
+of_operator contents file reasons.Width is h = λ other. absurd (other is)
+of_operator contents file reasons.NotText is h = λ other. absurd (other is)
+of_operator contents file (reasons.Value column) is h = λ other. absurd (other is)
+of_operator contents file reasons.TwoZones is h = λ other. absurd (other is)
+of_operator contents file (reasons.Doubled column) is h = λ other. absurd (other is)
+of_operator contents file (reasons.Unknown column) is h = λ other. absurd (other is)
+of_operator contents file reasons.LineForm is h = λ other. absurd (other is)
+of_operator contents file reasons.Limit is h = λ other. absurd (other is)
+
+pub operator_explained : (contents : Option Files) (e : FeedRefused) → IsRowRefusal files.Operator e → Explains contents e
+operator_explained contents (refusals.Unread other) h = tt
+operator_explained contents (refusals.At other line reason) h = of_operator contents other reason h.0 h.1
+operator_explained contents refusals.NoMemory h = tt
 
 -- a file that must be there by itself is missed where it is not there
 pub is_missed : (contents : Option Files) (file : FeedFile) → IsNeeded file → Lacks contents file → IsMissed contents file
@@ -72,3 +137,24 @@ pub passed_read : {T : Type 0} (result : Result T FeedRefused) (refused : FeedRe
     → IsErrAnd result (λ passed. passed ≡ refused) → (IsTrue (is_unread refused) → ⊥) → IfErr result (λ passed. IsTrue (is_unread passed) → A)
 passed_read (Ok value) refused A is h = tt
 passed_read (Err passed) refused A is h = λ unread. absurd (h (subst (λ (e : FeedRefused). IsTrue (is_unread e)) is unread))
+
+-- what it passes on is that error
+pub passed_is : {T : Type 0} (result : Result T FeedRefused) (refused : FeedRefused) → IsErrAnd result (λ passed. passed ≡ refused) → result ≡ Err refused
+passed_is (Ok value) refused is = absurd is
+passed_is (Err passed) refused is = ap Err is
+
+-- a file of agencies with no row
+no_rows : (bytes : Text) → HasTaken (λ column head. IsPlace head (column_name columns.AgencyTimezone) (Some column)) (λ column rows. HoldsZone None column rows) bytes
+    → IsCause files.Agency (reasons.Value columns.AgencyTimezone) (strip_bom bytes)
+unfolding IsCause
+no_rows bytes h = inr (refl, refl, (h.head, subst (λ (rows : List Record). HasEnded (strip_bom bytes) (h.head ∷ rows)) h.held h.all))
+
+pub no_zone : (contents : Option Files) (e : FeedRefused) → e ≡ refusals.At files.Agency 2 (reasons.Value columns.AgencyTimezone)
+    → OfFile contents files.Agency (HasTaken (λ column head. IsPlace head (column_name columns.AgencyTimezone) (Some column)) (λ column rows. HoldsZone None column rows))
+    → Explains contents e
+no_zone contents e is told =
+    subst (λ (refused : FeedRefused). Explains contents refused) (sym is)
+    (λ other.
+    of_file contents files.Agency
+    (HasTaken (λ column head. IsPlace head (column_name columns.AgencyTimezone) (Some column)) (λ column rows. HoldsZone None column rows))
+    (λ bytes. IsCause files.Agency (reasons.Value columns.AgencyTimezone) (strip_bom bytes)) no_rows told)

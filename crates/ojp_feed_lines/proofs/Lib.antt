@@ -1,5 +1,7 @@
+pub mod CauseFacts
 pub mod Explained
 pub mod Named
 pub mod PlaceFacts
 pub mod ReadFacts
 pub mod StandFacts
+pub mod WeekdayFacts

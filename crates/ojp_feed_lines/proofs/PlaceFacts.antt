@@ -4,6 +4,7 @@ use Rattle.std.specs.Str.{bytes_eq}
 use Rattle.std.proofs.lemmas.Slice.Eq.{bytes_eq-Decides}
 use Rattle.csv.specs.Records.{field_at}
 use Rattle.ojp_values.specs.Texts.{Text}
+use Rattle.ojp_feed_lines.specs.Causes.{LacksName}
 use Rattle.ojp_feed_lines.specs.Rows.{Record, at_place, or_nothing, under}
 
 -- no field before this place is the name
@@ -36,3 +37,14 @@ under_none (h ∷ hs) name n [] = refl
 under_none (h ∷ hs) name n (f ∷ fs) =
     rw (is_other (bytes_eq h name) h name (bytes_eq-Decides h name) (λ s. n 0 (omega arith) (ap Some s)))
     (under_none hs name (λ k below same. n (suc k) (omega (arith, below)) same) fs)
+
+-- a place of a field is before the end
+field_within : (head : Record) (k : ℕ) (field : Text) → field_at head k ≡ Some field → k < length head
+unfolding field_at
+field_within [] k field e = cc e
+field_within (h ∷ hs) zero field e = omega arith
+field_within (h ∷ hs) (suc k) field e = let within = field_within hs k field e in omega (arith, within)
+
+-- no field at all is the name
+pub lacks_name : (head : Record) (name : Text) → LacksBefore head name (length head) → LacksName head name
+lacks_name head name n k is = n k (field_within head k name is) is

@@ -1,9 +1,9 @@
 -- Fields of the rows of a feed.
-use Rattle.std.specs.Prelude.{ℕ, ◌+◌, ◌-◌, ◌*◌, ◌==◌, ◌&&◌, Bool, true, false, cond, if◌then◌else◌, codes, bytes_eq, length, nat_le, slice_index, slice_range, not, List, ◌++◌, Option, Some, None}
+use Rattle.std.specs.Prelude.{◌≢◌, ◌≤◌, ℕ, ◌+◌, ◌-◌, ◌*◌, ◌==◌, ◌&&◌, Bool, true, false, cond, if◌then◌else◌, codes, bytes_eq, length, nat_le, nat_lt, slice_index, slice_range, not, List, ◌++◌, Option, Some, None}
 use Rattle.ojp_values.specs.Dates.{date_of, two, four}
 use Rattle.ojp_values.specs.declared.dates.CalendarDate.{CalendarDate}
 use Rattle.ojp_values.specs.Numbers.{are_digits, number}
-use Rattle.ojp_zones.specs.Numbers.{is_pair}
+use Rattle.ojp_zones.specs.Numbers.{is_pair, number_if}
 use Rattle.ojp_zones.specs.Parts.{Text}
 use Rattle.ojp_feed_rows.specs.declared.stops.LocationKind.{LocationKind}
 use Rattle.ojp_feed_rows.specs.declared.stops.LocationKind.TheVariants.{Platform, Station, Entrance, Node, BoardingArea}
@@ -53,8 +53,32 @@ compact date = four date.year ++ two date.month ++ two date.day
 abbrev pub compact_day : ℕ → Text
 compact_day day = compact (date_of day)
 
+-- no date from 1970-01-03 to 2199-12-28
+abbrev pub IsNoDate : Text → Type 0
+IsNoDate text = (day : ℕ) → (2 ≤ day) × (day ≤ 84002) → compact_day day ≢ text
+
 abbrev pub flag_of : Text → Option Bool
 flag_of text = if bytes_eq text (codes "0") then Some false else if bytes_eq text (codes "1") then Some true else None
+
+-- an `exact_times`, which may be empty
+abbrev pub exact_of : Text → Option Bool
+exact_of text = if length text == 0 then Some false else flag_of text
+
+-- an `exception_type`: the service runs, or does not
+abbrev pub exception_kind_of : Text → Option Bool
+exception_kind_of text = if bytes_eq text (codes "1") then Some true else if bytes_eq text (codes "2") then Some false else None
+
+-- the seconds between two departures: a count from 1 to 3,600,000
+unfoldable pub is_headway : Text → Bool
+is_headway text = is_count 3600000 text && nat_lt 0 (number text)
+
+-- a `transfer_type`, which may be empty
+abbrev pub transfer_kind_of : Text → Option ℕ
+transfer_kind_of text = if length text == 0 then Some 0 else number_if (is_count 5 text) text
+
+-- a `min_transfer_time`, where the field is not empty
+abbrev pub empty_or_seconds : Text → Option (Option ℕ)
+empty_or_seconds text = if length text == 0 then Some None else if is_count 4294967295 text then Some (Some (number text)) else None
 
 -- a `pickup_type` or `drop_off_type`
 abbrev pub access_of : Text → Option Access

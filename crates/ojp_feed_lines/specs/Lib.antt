@@ -1,3 +1,4 @@
+pub mod Causes
 pub mod Columns
 pub mod Fields
 pub mod Folders
@@ -5,5 +6,6 @@ pub mod Lines
 pub mod MemFolders
 pub mod Places
 pub mod Refusals
+pub mod RowPlaces
 pub mod Rows
 pub mod Tables

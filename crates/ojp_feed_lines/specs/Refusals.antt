@@ -1,13 +1,17 @@
 -- Why a feed is refused.
-use Rattle.std.specs.Prelude.{◌≡◌, IsTrue, Bool, true, false, ⊤, Option, codes}
+use Rattle.std.specs.Prelude.{◌≡◌, ◌≢◌, ◌<◌, ◌⊎◌, IsTrue, Bool, true, false, ⊤, Option, codes, length}
+use Rattle.csv.specs.Reading.{strip_bom}
 use Rattle.ojp_values.specs.Texts.{Text}
+use Rattle.ojp_feed_lines.specs.Causes.{IsCause}
 use Rattle.ojp_feed_lines.specs.Folders.{Files, Lacks}
+use Rattle.ojp_feed_lines.specs.Rows.{OfFile}
 use Rattle.ojp_feed_lines.specs.declared.files.FeedFile.{FeedFile}
 use Rattle.ojp_feed_lines.specs.declared.files.FeedFile.TheVariants as files
 use Rattle.ojp_feed_lines.specs.declared.refusals.FeedRefused.{FeedRefused}
 use Rattle.ojp_feed_lines.specs.declared.refusals.FeedRefused.TheVariants as refusals
 use Rattle.ojp_feed_lines.specs.declared.refusals.RowReason.{RowReason}
 use Rattle.ojp_feed_lines.specs.declared.refusals.RowReason.TheVariants as reasons
+use Rattle.ojp_feed_lines.specs.declared.folder.TheConstants.{MOST_BYTES}
 
 -- the name in the folder
 abbrev pub name_of : FeedFile → Text
@@ -41,18 +45,27 @@ IsMissed contents files.Transfers = ⊥
 IsMissed contents files.StopTimes = Lacks contents files.StopTimes
 IsMissed contents files.Operator = ⊥
 
--- a file is told as missing only where it is missed
+-- the told bytes of the file are the cause, without the byte order mark that they may begin with; of the operator's file, which
+-- does not lie in the folder, nothing is said
+abbrev pub HasCause : Option Files → FeedFile → RowReason → Type 0
+HasCause contents file reason = file ≢ files.Operator → OfFile contents file (λ bytes. IsCause file reason (strip_bom bytes))
+
+-- the same of a limit: the file is too long, or has too many rows
+abbrev pub PassesLimit : Option Files → FeedFile → Type 0
+PassesLimit contents file = file ≢ files.Operator → OfFile contents file (λ bytes. MOST_BYTES < length bytes ⊎ IsCause file reasons.Limit (strip_bom bytes))
+
+-- a file is told as missing only where it is missed, and else by its bytes
 abbrev pub ExplainsAt : Option Files → FeedFile → RowReason → Type 0
 ExplainsAt contents file reasons.MissingFile = IsMissed contents file
-ExplainsAt contents file (reasons.MissingColumn column) = ⊤
-ExplainsAt contents file reasons.Width = ⊤
-ExplainsAt contents file reasons.NotText = ⊤
-ExplainsAt contents file (reasons.Value column) = ⊤
-ExplainsAt contents file reasons.TwoZones = ⊤
-ExplainsAt contents file (reasons.Doubled column) = ⊤
-ExplainsAt contents file (reasons.Unknown column) = ⊤
-ExplainsAt contents file reasons.LineForm = ⊤
-ExplainsAt contents file reasons.Limit = ⊤
+ExplainsAt contents file (reasons.MissingColumn column) = HasCause contents file (reasons.MissingColumn column)
+ExplainsAt contents file reasons.Width = HasCause contents file reasons.Width
+ExplainsAt contents file reasons.NotText = HasCause contents file reasons.NotText
+ExplainsAt contents file (reasons.Value column) = HasCause contents file (reasons.Value column)
+ExplainsAt contents file reasons.TwoZones = HasCause contents file reasons.TwoZones
+ExplainsAt contents file (reasons.Doubled column) = HasCause contents file (reasons.Doubled column)
+ExplainsAt contents file (reasons.Unknown column) = HasCause contents file (reasons.Unknown column)
+ExplainsAt contents file reasons.LineForm = HasCause contents file reasons.LineForm
+ExplainsAt contents file reasons.Limit = PassesLimit contents file
 
 -- the told files explain why a line is refused
 abbrev pub Explains : Option Files → FeedRefused → Type 0

@@ -5,6 +5,7 @@ ghost use Rattle.ojp_outside.specs.Causes.{Rose};
 ghost use Rattle.ojp_feed_lines.specs.Refusals.{Explains, is_unread};
 ghost use Rattle.ojp_feed_lines.specs.Columns.{column_name};
 ghost use Rattle.ojp_feed_lines.specs.declared.columns.Column.{Column};
+ghost use Rattle.ojp_feed_lines.specs.declared.files.FeedFile.{FeedFile};
 ghost use Rattle.ojp_feed_lines.specs.Places.{HoldsZone, IsZoneOf};
 ghost use Rattle.ojp_feed_lines.specs.Rows.{IsPlace, OfFile};
 
@@ -36,7 +37,13 @@ pub(crate) fn read_zone_name<D: Folder>(
     ensures refused { IfErr result (λ e. Explains (D.seen folder.old).contents e) }
 {
     let mut rows = ZoneRows { name: None };
-    take_needed(alloc, folder, FeedFile::Agency, &mut rows)?;
+    take_needed(
+        alloc,
+        folder,
+        FeedFile::Agency,
+        Column::AgencyTimezone,
+        &mut rows,
+    )?;
     match rows.name {
         Some(name) => Ok(name),
         None => Err(no_row()),
@@ -57,7 +64,7 @@ fn no_row() -> FeedRefused
 impl Rows for ZoneRows {
     type Columns = usize;
 
-    const NEEDED: Column = Column::AgencyTimezone;
+    ghost file = { FeedFile.Agency };
 
     ghost places = { λ column head. IsPlace head (column_name Column.AgencyTimezone) (Some column) };
 

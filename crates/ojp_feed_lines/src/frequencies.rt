@@ -1,8 +1,15 @@
 //! `frequencies.txt`.
 
-ghost use Rattle.std.specs.Prelude.{◌≡◌, ◌≤◌, ⊤, IfErr, IfOk, IsTrue};
+ghost use Rattle.std.specs.Prelude.{◌≡◌, ◌≤◌, ⊤, IfErr, IsTrue};
+ghost use Rattle.csv.specs.Records.{fields_of};
+ghost use Rattle.ojp_zones.specs.Numbers.{number_if};
 ghost use Rattle.ojp_outside.specs.Causes.{Rose};
+ghost use Rattle.ojp_feed_lines.specs.Causes.{IsOfPlaced};
+ghost use Rattle.ojp_feed_lines.specs.Fields.{exact_of, is_headway};
 ghost use Rattle.ojp_feed_lines.specs.Refusals.{Explains, IsRowRefusal, is_unread};
+ghost use Rattle.ojp_feed_lines.specs.RowPlaces.{FrequencyPlaces};
+ghost use Rattle.ojp_feed_lines.specs.declared.columns.Column.{Column};
+ghost use Rattle.ojp_feed_lines.specs.declared.files.FeedFile.{FeedFile};
 
 use crate::columns::Column;
 use crate::fields::{read_count, read_flag, read_time};
@@ -47,16 +54,22 @@ pub(crate) fn read_frequencies<D: Folder>(
     ensures refused { IfErr result (λ e. Explains (D.seen folder.old).contents e) }
 {
     let mut rows = FrequencyRows { trips };
-    take_file(alloc, folder, FeedFile::Frequencies, &mut rows)?;
+    take_file(
+        alloc,
+        folder,
+        FeedFile::Frequencies,
+        Column::TripId,
+        &mut rows,
+    )?;
     Ok(rows.trips)
 }
 
 impl Rows for FrequencyRows {
     type Columns = FrequencyColumns;
 
-    const NEEDED: Column = Column::TripId;
+    ghost file = { FeedFile.Frequencies };
 
-    ghost places = { λ _ _. ⊤ };
+    ghost places = { FrequencyPlaces };
 
     ghost holds = { λ _ _ _. ⊤ };
 
@@ -101,7 +114,8 @@ fn frequency_of<F: OpenedFile>(
     table: &Table<F>,
     columns: FrequencyColumns,
 ) -> Result<Frequency, FeedRefused>
-    ensures { IfErr result (λ e. IsRowRefusal table.now.file e) }
+    ensures refused { IfErr result (λ e. IsRowRefusal table.now.file e) }
+    ensures why { IfErr result (λ e. IsOfPlaced FeedFile.Frequencies (FrequencyPlaces columns) (fields_of table.now.row) e) }
 {
     let start = table.value(
         read_time(table.field(columns.start).as_bytes()),
@@ -127,7 +141,10 @@ fn frequency_of<F: OpenedFile>(
     })
 }
 
-fn read_headway(text: &[u8]) -> Option<u32> {
+#[tactic(auto, unfolding(crate::specs::Fields::is_headway))]
+fn read_headway(text: &[u8]) -> Option<u32>
+    ensures { result ≡ number_if (is_headway text.now) text.now }
+{
     match read_count(text, LONGEST_HEADWAY) {
         Some(0) => None,
         headway => headway,
@@ -135,7 +152,9 @@ fn read_headway(text: &[u8]) -> Option<u32> {
 }
 
 /// `exact_times`, which may be empty.
-fn read_exact(text: &str) -> Option<bool> {
+fn read_exact(text: &str) -> Option<bool>
+    ensures { result ≡ exact_of text.now }
+{
     if text.is_empty() {
         return Some(false);
     }

@@ -1,7 +1,12 @@
 //! Ids by number.
 
-ghost use Rattle.std.specs.Prelude.{◌≡◌, ◌∷◌, ◌++◌, [], IfErr, IfOk, OnOk, string_bytes};
+ghost use Rattle.std.specs.Prelude.{◌≡◌, ◌∷◌, ◌++◌, [], IfErr, IfOk, IsTrue, OnOk, Some, string_bytes};
+ghost use Rattle.csv.specs.Records.{fields_of};
+ghost use Rattle.ojp_feed_lines.specs.Causes.{IsBad, IsOfPlaced, checks};
+ghost use Rattle.ojp_feed_lines.specs.Columns.{column_name};
 ghost use Rattle.ojp_feed_lines.specs.Refusals.{IsRowRefusal};
+ghost use Rattle.ojp_feed_lines.specs.Rows.{IsPlace};
+ghost use Rattle.ojp_feed_lines.specs.declared.files.FeedFile.{FeedFile};
 
 use crate::columns::Column;
 use crate::folder::OpenedFile;
@@ -60,7 +65,9 @@ impl Ids {
         place: usize,
         column: Column,
     ) -> Result<(), FeedRefused>
-        ensures { IfErr result (λ e. IsRowRefusal table.now.file e) }
+        ensures refused { IfErr result (λ e. IsRowRefusal table.now.file e) }
+        ensures why { IfErr result (λ e. (file : FeedFile) → IsTrue (checks file column) → IsBad column []
+            → IsOfPlaced file (λ head. IsPlace head (column_name column) (Some place)) (fields_of table.now.row) e) }
     {
         if self.is_full() {
             return Err(table.refused(RowReason::Limit));

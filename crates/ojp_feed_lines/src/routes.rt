@@ -6,6 +6,7 @@ ghost use Rattle.ojp_outside.specs.Causes.{Rose};
 ghost use Rattle.ojp_feed_lines.specs.Refusals.{Explains, is_unread};
 ghost use Rattle.ojp_feed_lines.specs.Columns.{column_name};
 ghost use Rattle.ojp_feed_lines.specs.declared.columns.Column.{Column};
+ghost use Rattle.ojp_feed_lines.specs.declared.files.FeedFile.{FeedFile};
 ghost use Rattle.ojp_feed_lines.specs.Places.{AreRoutesOf, route_at, route_texts};
 ghost use Rattle.ojp_feed_lines.specs.Rows.{IsPlace, OfFile};
 
@@ -50,14 +51,20 @@ pub(crate) fn read_routes<D: Folder>(alloc: Global, folder: &mut D) -> Result<Ro
         routes: Vec::new(alloc),
         continuous: 0,
     };
-    take_needed(alloc, folder, FeedFile::Routes, &mut routes)?;
+    take_needed(
+        alloc,
+        folder,
+        FeedFile::Routes,
+        Column::RouteId,
+        &mut routes,
+    )?;
     Ok(routes)
 }
 
 impl Rows for Routes {
     type Columns = RouteColumns;
 
-    const NEEDED: Column = Column::RouteId;
+    ghost file = { FeedFile.Routes };
 
     ghost places = { λ c head. IsPlace head (column_name Column.RouteId) (Some c.id) × IsPlace head (column_name Column.RouteShortName) c.short_name };
 

@@ -1,8 +1,16 @@
 //! `calendar.txt` and `calendar_dates.txt`.
 
-ghost use Rattle.std.specs.Prelude.{◌≡◌, ◌≤◌, ⊤, IfErr, IfOk, IsTrue};
+ghost use Rattle.std.specs.Prelude.{◌≡◌, ◌≤◌, ⊤, IfErr, IfOk, IsTrue, Some};
+ghost use Rattle.csv.specs.Records.{fields_of};
 ghost use Rattle.ojp_outside.specs.Causes.{Rose};
+ghost use Rattle.ojp_feed_lines.specs.Causes.{IsOfHead, IsOfPlaced, checks};
+ghost use Rattle.ojp_feed_lines.specs.Columns.{column_name};
+ghost use Rattle.ojp_feed_lines.specs.Fields.{exception_kind_of};
 ghost use Rattle.ojp_feed_lines.specs.Refusals.{Explains, IsRowRefusal, is_unread};
+ghost use Rattle.ojp_feed_lines.specs.Rows.{IsPlace};
+ghost use Rattle.ojp_feed_lines.specs.RowPlaces.{DatedPlaces, WeekdayPlaces, WeeklyPlaces};
+ghost use Rattle.ojp_feed_lines.specs.declared.columns.Column.{Column};
+ghost use Rattle.ojp_feed_lines.specs.declared.files.FeedFile.{FeedFile};
 
 use crate::columns::Column;
 use crate::fields::{read_date, read_flag};
@@ -87,12 +95,24 @@ pub(crate) fn read_services<D: Folder>(
             services: Vec::new(alloc),
         },
     };
-    let has_weekly = take_file(alloc, folder, FeedFile::Calendar, &mut weekly)?;
+    let has_weekly = take_file(
+        alloc,
+        folder,
+        FeedFile::Calendar,
+        Column::Monday,
+        &mut weekly,
+    )?;
     let mut dated = DatedRows {
         services: weekly.services,
         dated: IndexSet::new(alloc),
     };
-    let has_dated = take_file(alloc, folder, FeedFile::CalendarDates, &mut dated)?;
+    let has_dated = take_file(
+        alloc,
+        folder,
+        FeedFile::CalendarDates,
+        Column::ServiceId,
+        &mut dated,
+    )?;
     if has_weekly || has_dated {
         Ok(dated.services)
     } else {
@@ -103,9 +123,9 @@ pub(crate) fn read_services<D: Folder>(
 impl Rows for WeeklyRows {
     type Columns = WeeklyColumns;
 
-    const NEEDED: Column = Column::Monday;
+    ghost file = { FeedFile.Calendar };
 
-    ghost places = { λ _ _. ⊤ };
+    ghost places = { WeeklyPlaces };
 
     ghost holds = { λ _ _ _. ⊤ };
 
@@ -130,7 +150,9 @@ impl Rows for WeeklyRows {
 }
 
 fn weekday_columns<F: OpenedFile>(table: &Table<F>) -> Result<[usize; 7], FeedRefused>
-    ensures { IfErr result (λ e. IsRowRefusal table.now.file e) }
+    ensures places { IfOk result (λ weekdays. WeekdayPlaces weekdays 7 (fields_of table.now.row)) }
+    ensures refused { IfErr result (λ e. IsRowRefusal table.now.file e) }
+    ensures why { IfErr result (λ e. IsOfHead FeedFile.Calendar (fields_of table.now.row) e) }
 {
     let mut weekdays = [0usize; 7];
     for day in 0..7usize {
@@ -147,7 +169,9 @@ fn add_service<F: OpenedFile>(
     weekly: Option<Weekly>,
     services: &mut Services,
 ) -> Result<(), FeedRefused>
-    ensures { IfErr result (λ e. IsRowRefusal table.now.file e) }
+    ensures refused { IfErr result (λ e. IsRowRefusal table.now.file e) }
+    ensures why { IfErr result (λ e. (file : FeedFile) → IsTrue (checks file Column.ServiceId)
+        → IsOfPlaced file (λ head. IsPlace head (column_name Column.ServiceId) (Some place)) (fields_of table.now.row) e) }
 {
     services
         .ids
@@ -164,7 +188,8 @@ fn add_service<F: OpenedFile>(
 }
 
 fn weekly_of<F: OpenedFile>(table: &Table<F>, columns: WeeklyColumns) -> Result<Weekly, FeedRefused>
-    ensures { IfErr result (λ e. IsRowRefusal table.now.file e) }
+    ensures refused { IfErr result (λ e. IsRowRefusal table.now.file e) }
+    ensures why { IfErr result (λ e. IsOfPlaced FeedFile.Calendar (WeeklyPlaces columns) (fields_of table.now.row) e) }
 {
     let marks = marks_of(table, columns.weekdays)?;
     let first = table.value(
@@ -183,7 +208,8 @@ fn weekly_of<F: OpenedFile>(table: &Table<F>, columns: WeeklyColumns) -> Result<
 
 /// On which weekdays the service runs.
 fn marks_of<F: OpenedFile>(table: &Table<F>, weekdays: [usize; 7]) -> Result<[bool; 7], FeedRefused>
-    ensures { IfErr result (λ e. IsRowRefusal table.now.file e) }
+    ensures refused { IfErr result (λ e. IsRowRefusal table.now.file e) }
+    ensures why { IfErr result (λ e. IsOfPlaced FeedFile.Calendar (WeekdayPlaces weekdays 7) (fields_of table.now.row) e) }
 {
     let mut marks = [false; 7];
     for day in 0..7usize {
@@ -196,9 +222,9 @@ fn marks_of<F: OpenedFile>(table: &Table<F>, weekdays: [usize; 7]) -> Result<[bo
 impl Rows for DatedRows {
     type Columns = DatedColumns;
 
-    const NEEDED: Column = Column::ServiceId;
+    ghost file = { FeedFile.CalendarDates };
 
-    ghost places = { λ _ _. ⊤ };
+    ghost places = { DatedPlaces };
 
     ghost holds = { λ _ _ _. ⊤ };
 
@@ -234,25 +260,27 @@ fn exception_of<F: OpenedFile>(
     table: &Table<F>,
     columns: DatedColumns,
 ) -> Result<Exception, FeedRefused>
-    ensures { IfErr result (λ e. IsRowRefusal table.now.file e) }
+    ensures refused { IfErr result (λ e. IsRowRefusal table.now.file e) }
+    ensures why { IfErr result (λ e. IsOfPlaced FeedFile.CalendarDates (DatedPlaces columns) (fields_of table.now.row) e) }
 {
     let day = table.value(
         read_date(table.field(columns.date).as_bytes()),
         Column::Date,
     )?;
-    let runs = table.value(
-        read_kind(table.field(columns.kind).as_bytes()),
-        Column::ExceptionType,
-    )?;
+    let runs = table.value(read_kind(table.field(columns.kind)), Column::ExceptionType)?;
     Ok(Exception { day, runs })
 }
 
 /// 1: the service runs; 2: it does not.
-fn read_kind(text: &[u8]) -> Option<bool> {
-    match text {
-        b"1" => Some(true),
-        b"2" => Some(false),
-        _ => None,
+fn read_kind(text: &str) -> Option<bool>
+    ensures { result ≡ exception_kind_of text.now }
+{
+    if text == "1" {
+        Some(true)
+    } else if text == "2" {
+        Some(false)
+    } else {
+        None
     }
 }
 
@@ -277,7 +305,9 @@ fn service_of<F: OpenedFile>(
     place: usize,
     services: &mut Services,
 ) -> Result<u32, FeedRefused>
-    ensures { IfErr result (λ e. IsRowRefusal table.now.file e) }
+    ensures refused { IfErr result (λ e. IsRowRefusal table.now.file e) }
+    ensures why { IfErr result (λ e. (file : FeedFile) → IsTrue (checks file Column.ServiceId)
+        → IsOfPlaced file (λ head. IsPlace head (column_name Column.ServiceId) (Some place)) (fields_of table.now.row) e) }
 {
     if let Some(number) = services.ids.number(table.field(place)) {
         return Ok(number);

@@ -1,8 +1,13 @@
 //! `stop_times.txt`, the longest of the files.
 
 ghost use Rattle.std.specs.Prelude.{◌≡◌, ◌≤◌, ⊤, IfErr, IfOk, IsTrue};
+ghost use Rattle.csv.specs.Records.{fields_of};
 ghost use Rattle.ojp_outside.specs.Causes.{Rose};
+ghost use Rattle.ojp_feed_lines.specs.Causes.{IsOfHead, IsOfPlaced};
 ghost use Rattle.ojp_feed_lines.specs.Refusals.{Explains, IsRowRefusal, is_unread};
+ghost use Rattle.ojp_feed_lines.specs.RowPlaces.{CallPlaces};
+ghost use Rattle.ojp_feed_lines.specs.declared.columns.Column.{Column};
+ghost use Rattle.ojp_feed_lines.specs.declared.files.FeedFile.{FeedFile};
 
 use crate::columns::Column;
 use crate::fields::{is_continuous, read_access, read_count, read_empty_or_time};
@@ -59,22 +64,29 @@ pub(crate) fn read_stop_times<D: Folder>(
     ensures refused { IfErr result (λ e. Explains (D.seen folder.old).contents e) }
 {
     let mut rows = CallRows { known, trips };
-    take_needed(alloc, folder, FeedFile::StopTimes, &mut rows)?;
+    take_needed(
+        alloc,
+        folder,
+        FeedFile::StopTimes,
+        Column::TripId,
+        &mut rows,
+    )?;
     Ok(rows.trips)
 }
 
 impl Rows for CallRows<'_> {
     type Columns = CallColumns;
 
-    const NEEDED: Column = Column::TripId;
+    ghost file = { FeedFile.StopTimes };
 
-    ghost places = { λ _ _. ⊤ };
+    ghost places = { CallPlaces };
 
     ghost holds = { λ _ _ _. ⊤ };
 
     fn columns<F: OpenedFile>(table: &Table<F>) -> Result<CallColumns, FeedRefused>
-        ensures places { IfOk result (λ _. ⊤) }
+        ensures places { IfOk result (λ c. CallPlaces c (fields_of table.now.row)) }
         ensures refused { IfErr result (λ e. IsRowRefusal table.now.file e) }
+        ensures why { IfErr result (λ e. IsOfHead FeedFile.StopTimes (fields_of table.now.row) e) }
     {
         Ok(CallColumns {
             trip: table.needed(Column::TripId)?,
@@ -164,7 +176,8 @@ fn stop_time_of<F: OpenedFile>(
     table: &Table<F>,
     columns: CallColumns,
 ) -> Result<StopTime, FeedRefused>
-    ensures { IfErr result (λ e. IsRowRefusal table.now.file e) }
+    ensures refused { IfErr result (λ e. IsRowRefusal table.now.file e) }
+    ensures why { IfErr result (λ e. IsOfPlaced FeedFile.StopTimes (CallPlaces columns) (fields_of table.now.row) e) }
 {
     let sequence = read_count(table.field(columns.sequence).as_bytes(), u32::MAX);
     let arrival = read_empty_or_time(table.field(columns.arrival).as_bytes());

@@ -1,8 +1,13 @@
 //! `stops.txt`.
 
-ghost use Rattle.std.specs.Prelude.{◌≡◌, ◌≤◌, ⊤, IfErr, IfOk, IsTrue};
+ghost use Rattle.std.specs.Prelude.{◌≡◌, ◌≤◌, ⊤, IfErr, IsTrue};
+ghost use Rattle.csv.specs.Records.{fields_of};
 ghost use Rattle.ojp_outside.specs.Causes.{Rose};
+ghost use Rattle.ojp_feed_lines.specs.Causes.{IsOfPlaced};
 ghost use Rattle.ojp_feed_lines.specs.Refusals.{Explains, IsRowRefusal, is_unread};
+ghost use Rattle.ojp_feed_lines.specs.RowPlaces.{StopPlaces};
+ghost use Rattle.ojp_feed_lines.specs.declared.columns.Column.{Column};
+ghost use Rattle.ojp_feed_lines.specs.declared.files.FeedFile.{FeedFile};
 
 use crate::columns::Column;
 use crate::fields::read_location;
@@ -52,16 +57,16 @@ pub(crate) fn read_stops<D: Folder>(alloc: Global, folder: &mut D) -> Result<Sto
         stops: Vec::new(alloc),
         parents: Vec::new(alloc),
     };
-    take_needed(alloc, folder, FeedFile::Stops, &mut rows)?;
+    take_needed(alloc, folder, FeedFile::Stops, Column::StopId, &mut rows)?;
     Ok(with_parents(rows))
 }
 
 impl Rows for StopRows {
     type Columns = StopColumns;
 
-    const NEEDED: Column = Column::StopId;
+    ghost file = { FeedFile.Stops };
 
-    ghost places = { λ _ _. ⊤ };
+    ghost places = { StopPlaces };
 
     ghost holds = { λ _ _ _. ⊤ };
 
@@ -95,7 +100,8 @@ fn stop_of<F: OpenedFile>(
     table: &Table<F>,
     columns: StopColumns,
 ) -> Result<Stop, FeedRefused>
-    ensures { IfErr result (λ e. IsRowRefusal table.now.file e) }
+    ensures refused { IfErr result (λ e. IsRowRefusal table.now.file e) }
+    ensures why { IfErr result (λ e. IsOfPlaced FeedFile.Stops (StopPlaces columns) (fields_of table.now.row) e) }
 {
     let kind = read_location(table.field_of(columns.kind));
     let kind = table.value(kind, Column::LocationType)?;

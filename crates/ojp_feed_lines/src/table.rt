@@ -1,13 +1,15 @@
 //! The rows of a file, one after another.
 
-ghost use Rattle.std.specs.Prelude.{◌≡◌, ◌<◌, ◌∷◌, ◌++◌, ◌↔◌, List, [], IfErr, IfOk, IfSome, IsTrue, Ok, Some, true, false, length};
+ghost use Rattle.std.specs.Prelude.{◌≡◌, ◌<◌, ◌∷◌, ◌++◌, ◌↔◌, List, [], None, IfErr, IfOk, IfSome, IsTrue, Ok, Some, true, false, length};
 ghost use Rattle.csv.specs.Reading.{reader_source, strip_bom};
 ghost use Rattle.csv.specs.Records.{field_at, fields_of};
 ghost use Rattle.ojp_values.specs.Texts.{Text};
+ghost use Rattle.ojp_feed_lines.specs.Causes.{IsFor, IsOfHead, IsOfText, LacksName, TellsKind, needs};
 ghost use Rattle.ojp_feed_lines.specs.Columns.{column_name};
 ghost use Rattle.ojp_feed_lines.specs.Rows.{IsPlace, Record, at_place, or_nothing};
 ghost use Rattle.ojp_feed_lines.specs.Tables.{HasEnded, HasRead};
 ghost use Rattle.ojp_feed_lines.specs.Refusals.{IsRowRefusal, IsTableRefusal, is_of_row, is_unread};
+ghost use Rattle.ojp_feed_lines.specs.declared.files.FeedFile.{FeedFile};
 
 use crate::columns::Column;
 use crate::files::FeedFile;
@@ -58,6 +60,8 @@ impl<F: OpenedFile> Table<F> {
             → HasRead F.remaining self.old.rows bytes rows → HasRead F.remaining self.new.rows bytes (rows ++ fields_of self.new.row ∷ []) }
         ensures end { result ≡ Ok false → (bytes : Text) (rows : List Record)
             → HasRead F.remaining self.old.rows bytes rows → HasEnded bytes rows }
+        ensures why { IfErr result (λ e. (file : FeedFile) (text : Text) (rows : List Record)
+            → HasRead F.remaining self.old.rows text rows → IsOfText file text e) }
     {
         match self.rows.read_record(&mut self.row) {
             Ok(found) => {
@@ -81,6 +85,7 @@ impl<F: OpenedFile> Table<F> {
     fn refusal(&self, cause: ErrorKind) -> FeedRefused
         ensures at { IsTableRefusal self.now.file result }
         ensures unread { IsTrue (is_unread result) → 0 < F.faults (reader_source self.now.rows) }
+        ensures kind { TellsKind cause result }
     {
         match cause {
             ErrorKind::Utf8 { pos, .. } => at(self.file, pos, RowReason::NotText),
@@ -97,7 +102,8 @@ impl<F: OpenedFile> Table<F> {
 
     /// The place of the column among the names of the row.
     pub fn place(&self, column: Column) -> Option<usize>
-        ensures { IsPlace (fields_of self.now.row) (column_name column) result }
+        ensures under { IsPlace (fields_of self.now.row) (column_name column) result }
+        ensures none { result ≡ None → LacksName (fields_of self.now.row) (column_name column) }
     {
         for place in 0..self.row.len() {
             if self.is_named(place, column) {
@@ -121,6 +127,7 @@ impl<F: OpenedFile> Table<F> {
     pub fn needed(&self, column: Column) -> Result<usize, FeedRefused>
         ensures place { IfOk result (λ place. IsPlace (fields_of self.now.row) (column_name column) (Some place)) }
         ensures refused { IfErr result (λ e. IsRowRefusal self.now.file e) }
+        ensures why { IfErr result (λ e. (file : FeedFile) → IsTrue (needs file column) → IsOfHead file (fields_of self.now.row) e) }
     {
         match self.place(column) {
             Some(place) => Ok(place),
@@ -154,6 +161,7 @@ impl<F: OpenedFile> Table<F> {
         ensures row { IsRowRefusal self.now.file result }
         ensures table { IsTableRefusal self.now.file result }
         ensures read { is_unread result ≡ false }
+        ensures reason { IsFor reason result }
     {
         FeedRefused::At {
             file: self.file,
@@ -166,6 +174,7 @@ impl<F: OpenedFile> Table<F> {
     pub fn value<T>(&self, read: Option<T>, column: Column) -> Result<T, FeedRefused>
         ensures value { IfOk result (λ value. read ≡ Some value) }
         ensures refused { IfErr result (λ e. IsRowRefusal self.now.file e) }
+        ensures why { IfErr result (λ e. (read ≡ None) × IsFor (RowReason.Value column) e) }
     {
         match read {
             Some(value) => Ok(value),
@@ -177,6 +186,7 @@ impl<F: OpenedFile> Table<F> {
     pub fn id(&self, place: usize, column: Column) -> Result<&str, FeedRefused>
         ensures text { IfOk result (λ id. id.now ≡ or_nothing (field_at (fields_of self.now.row) place)) }
         ensures refused { IfErr result (λ e. IsRowRefusal self.now.file e) }
+        ensures why { IfErr result (λ e. (or_nothing (field_at (fields_of self.now.row) place) ≡ []) × IsFor (RowReason.Value column) e) }
     {
         let id = self.field(place);
         if id.is_empty() {
@@ -191,6 +201,7 @@ fn at(file: FeedFile, place: Option<Position>, reason: RowReason) -> FeedRefused
     requires { IsTrue (is_of_row reason) }
     ensures table { IsTableRefusal file result }
     ensures read { is_unread result ≡ false }
+    ensures reason { IsFor reason result }
 {
     let line = match place {
         Some(place) => place.line,

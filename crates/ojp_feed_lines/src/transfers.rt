@@ -1,8 +1,14 @@
 //! `transfers.txt`.
 
 ghost use Rattle.std.specs.Prelude.{◌≡◌, ◌≤◌, ⊤, IfErr, IfOk, IsTrue};
+ghost use Rattle.csv.specs.Records.{fields_of};
 ghost use Rattle.ojp_outside.specs.Causes.{Rose};
+ghost use Rattle.ojp_feed_lines.specs.Causes.{IsOfHead, IsOfPlaced};
+ghost use Rattle.ojp_feed_lines.specs.Fields.{empty_or_seconds, transfer_kind_of};
 ghost use Rattle.ojp_feed_lines.specs.Refusals.{Explains, IsRowRefusal, is_unread};
+ghost use Rattle.ojp_feed_lines.specs.RowPlaces.{TransferPlaces};
+ghost use Rattle.ojp_feed_lines.specs.declared.columns.Column.{Column};
+ghost use Rattle.ojp_feed_lines.specs.declared.files.FeedFile.{FeedFile};
 
 use crate::columns::Column;
 use crate::fields::read_count;
@@ -71,22 +77,29 @@ pub(crate) fn read_transfers<D: Folder>(
             typed: 0,
         },
     };
-    take_file(alloc, folder, FeedFile::Transfers, &mut rows)?;
+    take_file(
+        alloc,
+        folder,
+        FeedFile::Transfers,
+        Column::FromStopId,
+        &mut rows,
+    )?;
     Ok(rows.transfers)
 }
 
 impl Rows for TransferRows<'_> {
     type Columns = TransferColumns;
 
-    const NEEDED: Column = Column::FromStopId;
+    ghost file = { FeedFile.Transfers };
 
-    ghost places = { λ _ _. ⊤ };
+    ghost places = { TransferPlaces };
 
     ghost holds = { λ _ _ _. ⊤ };
 
     fn columns<F: OpenedFile>(table: &Table<F>) -> Result<TransferColumns, FeedRefused>
-        ensures places { IfOk result (λ _. ⊤) }
+        ensures places { IfOk result (λ c. TransferPlaces c (fields_of table.now.row)) }
         ensures refused { IfErr result (λ e. IsRowRefusal table.now.file e) }
+        ensures why { IfErr result (λ e. IsOfHead FeedFile.Transfers (fields_of table.now.row) e) }
     {
         Ok(TransferColumns {
             from: table.needed(Column::FromStopId)?,
@@ -124,7 +137,8 @@ fn row_of<F: OpenedFile>(
     columns: TransferColumns,
     stops: &Ids,
 ) -> Result<Row, FeedRefused>
-    ensures { IfErr result (λ e. IsRowRefusal table.now.file e) }
+    ensures refused { IfErr result (λ e. IsRowRefusal table.now.file e) }
+    ensures why { IfErr result (λ e. IsOfPlaced FeedFile.Transfers (TransferPlaces columns) (fields_of table.now.row) e) }
 {
     let kind = table.value(
         read_kind(table.field_of(columns.kind).as_bytes()),
@@ -160,7 +174,9 @@ fn is_special<F: OpenedFile>(table: &Table<F>, columns: TransferColumns) -> bool
 }
 
 /// A `transfer_type`, which may be empty.
-fn read_kind(text: &[u8]) -> Option<u32> {
+fn read_kind(text: &[u8]) -> Option<u32>
+    ensures { result ≡ transfer_kind_of text.now }
+{
     if text.is_empty() {
         return Some(0);
     }
@@ -168,7 +184,9 @@ fn read_kind(text: &[u8]) -> Option<u32> {
 }
 
 /// A `min_transfer_time`, where the field is not empty.
-fn read_seconds(text: &[u8]) -> Option<Option<u32>> {
+fn read_seconds(text: &[u8]) -> Option<Option<u32>>
+    ensures { result ≡ empty_or_seconds text.now }
+{
     if text.is_empty() {
         return Some(None);
     }

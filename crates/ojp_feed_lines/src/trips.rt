@@ -1,8 +1,14 @@
 //! `trips.txt`.
 
-ghost use Rattle.std.specs.Prelude.{◌≡◌, ◌≤◌, ⊤, IfErr, IfOk, IsTrue};
+ghost use Rattle.std.specs.Prelude.{◌≡◌, ◌≤◌, ⊤, IfErr, IfOk, IsTrue, Some};
+ghost use Rattle.csv.specs.Records.{fields_of};
 ghost use Rattle.ojp_outside.specs.Causes.{Rose};
+ghost use Rattle.ojp_feed_lines.specs.Causes.{IsOfHead, IsOfPlaced};
+ghost use Rattle.ojp_feed_lines.specs.Columns.{column_name};
 ghost use Rattle.ojp_feed_lines.specs.Refusals.{Explains, IsRowRefusal, is_unread};
+ghost use Rattle.ojp_feed_lines.specs.Rows.{IsPlace};
+ghost use Rattle.ojp_feed_lines.specs.declared.columns.Column.{Column};
+ghost use Rattle.ojp_feed_lines.specs.declared.files.FeedFile.{FeedFile};
 
 use crate::columns::Column;
 use crate::files::FeedFile;
@@ -70,7 +76,7 @@ pub(crate) fn read_trips<D: Folder>(
         trips: no_trips(alloc),
         blocks: Ids::new(alloc),
     };
-    take_needed(alloc, folder, FeedFile::Trips, &mut rows)?;
+    take_needed(alloc, folder, FeedFile::Trips, Column::TripId, &mut rows)?;
     Ok(rows.trips)
 }
 
@@ -88,15 +94,16 @@ fn no_trips(alloc: Global) -> Trips {
 impl Rows for TripRows<'_> {
     type Columns = TripColumns;
 
-    const NEEDED: Column = Column::TripId;
+    ghost file = { FeedFile.Trips };
 
-    ghost places = { λ _ _. ⊤ };
+    ghost places = { λ c head. IsPlace head (column_name Column.TripId) (Some c.id) };
 
     ghost holds = { λ _ _ _. ⊤ };
 
     fn columns<F: OpenedFile>(table: &Table<F>) -> Result<TripColumns, FeedRefused>
-        ensures places { IfOk result (λ _. ⊤) }
+        ensures places { IfOk result (λ c. IsPlace (fields_of table.now.row) (column_name Column.TripId) (Some c.id)) }
         ensures refused { IfErr result (λ e. IsRowRefusal table.now.file e) }
+        ensures why { IfErr result (λ e. IsOfHead FeedFile.Trips (fields_of table.now.row) e) }
     {
         Ok(TripColumns {
             id: table.needed(Column::TripId)?,
@@ -127,7 +134,8 @@ fn add_trip<F: OpenedFile>(
     known: Known<'_>,
     trips: &mut Trips,
 ) -> Result<(), FeedRefused>
-    ensures { IfErr result (λ e. IsRowRefusal table.now.file e) }
+    ensures refused { IfErr result (λ e. IsRowRefusal table.now.file e) }
+    ensures why { IfErr result (λ e. IsOfPlaced FeedFile.Trips (λ head. IsPlace head (column_name Column.TripId) (Some columns.id)) (fields_of table.now.row) e) }
 {
     trips.ids.add_row(alloc, table, columns.id, Column::TripId)?;
     let id = owned(alloc, table.field(columns.id))?;

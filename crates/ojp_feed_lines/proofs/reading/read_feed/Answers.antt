@@ -1,5 +1,5 @@
 use Rattle.ojp_feed_lines.specs.Refusals.{Explains}
-use Rattle.ojp_feed_lines.proofs.Explained.{passed_on, passed_read, row_is_read, row_is_table, table_explained}
+use Rattle.ojp_feed_lines.proofs.Explained.{operator_explained, passed_on, passed_read, row_is_read}
 use Rattle.ojp_feed_lines.proofs.reading.read_feed.Goals as goal
 
 pub returns-in_err-operator-clause-unread : goal.returns-in_err-operator-clause-unread
@@ -10,7 +10,7 @@ returns-in_err-operator-clause-unread g c =
 pub returns-in_err-operator-clause-refused : goal.returns-in_err-operator-clause-refused
 returns-in_err-operator-clause-refused g c =
     passed_on c.from_residual-in_err-operator.result c.in_err-operator.field-0.0 (Explains (g.D.Folder.seen c.args.folder.now).contents)
-    c.from_residual-in_err-operator.ensures.1 (table_explained _ _ _ (row_is_table _ _ c.in_err-operator.ensures))
+    c.from_residual-in_err-operator.ensures.1 (operator_explained _ _ c.in_err-operator.ensures)
 
 pub returns-clause-zone : goal.returns-clause-zone
 returns-clause-zone g c = rw c.feed_of.ensures.zone c.in_ok-zone_name.ensures.told

@@ -1,8 +1,10 @@
-use Rattle.std.proofs.Common.{◌≡◌, [], Result, Ok, Err, true, rules}
-use Rattle.std.specs.Prelude.{OnOk}
+use Rattle.std.proofs.Common.{◌≡◌, [], ◌∷◌, Result, Ok, Err, true, false, rules}
+use Rattle.std.specs.Prelude.{IfErr, OnOk}
+use Rattle.ojp_feed_lines.specs.declared.refusals.FeedRefused.{FeedRefused}
 use Rattle.csv.specs.Records.{fields_of}
 use Rattle.ojp_feed_lines.specs.Refusals.{IsTableRefusal}
-use Rattle.ojp_feed_lines.proofs.Explained.{passed_on, passed_read, row_is_read, row_is_table}
+use Rattle.ojp_feed_lines.proofs.CauseFacts.{begins, head_refused, no_head}
+use Rattle.ojp_feed_lines.proofs.Explained.{passed_is, passed_on, passed_read, row_is_read, row_is_table}
 use Rattle.ojp_feed_lines.proofs.rows.take_table.Goals as goal
 
 pub returns-in_err-columns-clause-refused : goal.returns-in_err-columns-clause-refused
@@ -34,3 +36,35 @@ returns-clause-taken g c =
       placed = c.in_ok-columns.ensures.places;
       held = held;
     })
+
+pub returns-in_err-next-clause-why : goal.returns-in_err-next-clause-why
+returns-in_err-next-clause-why g c =
+    rw (passed_is c.from_residual.result c.in_err-next.field-0.0 c.from_residual.ensures.1)
+    (λ text read none. c.in_err-next.ensures.why g.T.Rows.file text [] read)
+
+pub returns-then-not-branch-clause-why : goal.returns-then-not-branch-clause-why
+returns-then-not-branch-clause-why g c =
+    λ text read none.
+    let ended : c.next.result ≡ Ok false = search rules in
+    no_head g.T.Rows.file text c.args.key c.refused.result c.refused.ensures.reason (c.next.ensures.end ended text [] read) c.requires
+
+pub returns-in_err-columns-clause-why : goal.returns-in_err-columns-clause-why
+returns-in_err-columns-clause-why g c =
+    rw (passed_is c.from_residual-in_err-columns.result c.in_err-columns.field-0.0 c.from_residual-in_err-columns.ensures.1)
+    (λ text read none.
+    let found : c.next.result ≡ Ok true = search rules in
+    let head = fields_of c.next.new.self.row in
+    head_refused g.T.Rows.file text head c.in_err-columns.field-0.0
+    (begins g.F.Read.remaining c.next.new.self.rows text (head ∷ []) (c.next.ensures.row found text [] read)) c.in_err-columns.ensures.why)
+
+on_err : {T : Type 0} (result : Result T FeedRefused) (P Q : FeedRefused → Type 0) → IfErr result P → ((e : FeedRefused) → P e → Q e) → IfErr result Q
+on_err (Ok value) P Q h f = h
+on_err (Err refused) P Q h f = f refused h
+
+pub returns-clause-why : goal.returns-clause-why
+returns-clause-why g c =
+    on_err c.take_rows.result _ _ c.take_rows.ensures.why
+    (λ e why text read none.
+    let found : c.next.result ≡ Ok true = search rules in
+    let head = fields_of c.next.new.self.row in
+    why text head (c.next.ensures.row found text [] read) c.in_ok-columns.ensures.places (none c.in_ok-columns.columns))

@@ -1,5 +1,6 @@
 use Rattle.std.proofs.Common.{◌≡◌, true, false}
 use Rattle.csv.specs.Records.{fields_of}
+use Rattle.ojp_feed_lines.proofs.CauseFacts.{read_refused}
 use Rattle.ojp_feed_lines.proofs.ReadFacts.{read_all, read_more}
 use Rattle.ojp_feed_lines.proofs.table.Table.next.Goals as goal
 
@@ -16,3 +17,9 @@ returns-in-Ok-clause-end g c =
     let found : c.in-Ok.found ≡ false = cc in
     read_all g.F.Read.remaining c.args.self.now.rows c.read_record.new.self bytes rows (fields_of c.read_record.new.row) h
     (rw found at c.in-Ok.ensures.reads h.trim h.ready)
+
+pub returns-in-Err-clause-why : goal.returns-in-Err-clause-why
+returns-in-Err-clause-why g c =
+    λ file text rows h.
+    read_refused g.F.Read.remaining c.args.self.now.rows c.read_record.new.self text rows file c.into_kind.result c.refusal.result h
+    (rw c.into_kind.ensures (c.in-Err.ensures.why h.trim h.ready)) c.refusal.ensures.kind

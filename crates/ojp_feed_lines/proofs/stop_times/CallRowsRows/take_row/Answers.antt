@@ -1,0 +1,7 @@
+use Rattle.ojp_feed_lines.proofs.Explained.{passed_is}
+use Rattle.ojp_feed_lines.proofs.stop_times.CallRowsRows.take_row.Goals as goal
+
+pub returns-in_err-row-clause-why : goal.returns-in_err-row-clause-why
+returns-in_err-row-clause-why g c =
+    rw (passed_is c.from_residual.result c.in_err-row.field-0.0 c.from_residual.ensures.1)
+    (λ head above placed held. c.in_err-row.ensures.why head above placed)
