@@ -1,6 +1,7 @@
 -- Causes of refusals.
-use Rattle.std.proofs.Common.{◌≡◌, ◌≢◌, ◌≤◌, ◌<◌, ◌==◌, ℕ, Bool, true, false, List, [], ◌∷◌, ◌++◌, length, Option, Some, None, refl, sym, ◌∙◌, subst, inl, inr, arith}
-use Rattle.std.specs.Prelude.{IsTrue}
+use Rattle.std.proofs.Common.{◌≡◌, ◌≢◌, ◌≤◌, ◌<◌, ◌==◌, ℕ, zero, suc, Bool, true, false, List, [], ◌∷◌, ◌++◌, length, length-append, get_or, map, Option, Some, None, refl, sym, ap, ◌∙◌, subst, inl, inr, arith}
+use Rattle.std.specs.Prelude.{Contains, IsTrue, String, string_bytes}
+use Rattle.std.specs.declared.alloc.Global.{Global}
 use Rattle.csv.specs.Machine.{Read}
 use Rattle.csv.specs.Reading.{ExplainsRead, NextIs, Reached, ReadsNext, TookRecord, default_config, pending_of, reader_state}
 use Rattle.csv.specs.Records.{AllText}
@@ -11,17 +12,22 @@ use Rattle.csv.specs.declared.parser.State.TheVariants as st
 use Rattle.csv.specs.declared.reader.Reader.{Reader}
 use Rattle.csv.proofs.ReadFacts.{reached-more}
 use Rattle.std.proofs.lemmas.Bool.Decides.{nat_tests}
+use Rattle.std.proofs.lemmas.List.{length-map}
+use Rattle.std.proofs.lemmas.List.Elements.{Contains-append_right}
 use Rattle.ojp_values.specs.Numbers.{Reads}
 use Rattle.ojp_values.specs.Texts.{Text}
-use Rattle.ojp_feed_lines.specs.Causes.{BeginsWith, HasRow, IsBad, IsCause, IsFor, IsLacking, IsOfHead, IsOfNoRow, IsOfRow, IsOfText, IsRefused, LacksName, TellsKind, checks, needs}
+use Rattle.ojp_feed_lines.specs.Causes.{BeginsWith, HasManyRows, HasRow, IsBad, IsCause, IsFor, IsIdReason, IsIdRefusal, IsLacking, IsOfHead, IsOfNoRow, IsOfRow, IsOfText, IsRefused, LacksName, TellsKind, checks, doubles, needs}
 use Rattle.ojp_feed_lines.specs.Columns.{column_name}
 use Rattle.ojp_feed_lines.specs.Fields.{IsNoDate, compact_day, value_if}
+use Rattle.ojp_feed_lines.specs.IdTexts.{HoldsIds, id_texts}
+use Rattle.ojp_feed_lines.specs.Places.{HoldsZone}
 use Rattle.ojp_feed_lines.specs.Rows.{IsPlace, Record, at_place}
 use Rattle.ojp_feed_lines.specs.Tables.{HasEnded, HasRead, width_of}
 use Rattle.ojp_feed_lines.specs.declared.columns.Column.{Column}
 use Rattle.ojp_feed_lines.specs.declared.columns.Column.TheVariants as columns
 use Rattle.ojp_feed_lines.specs.declared.files.FeedFile.{FeedFile}
 use Rattle.ojp_feed_lines.specs.declared.files.FeedFile.TheVariants as files
+use Rattle.ojp_feed_lines.specs.declared.ids.Ids.{Ids}
 use Rattle.ojp_feed_lines.specs.declared.refusals.FeedRefused.{FeedRefused}
 use Rattle.ojp_feed_lines.specs.declared.refusals.FeedRefused.TheVariants as refusals
 use Rattle.ojp_feed_lines.specs.declared.refusals.RowReason.{RowReason}
@@ -143,7 +149,10 @@ row_cause file text head above row reasons.TwoZones b h = refused_row file text 
 row_cause file text head above row (reasons.Doubled column) b h = refused_row file text head above row (reasons.Doubled column) b h
 row_cause file text head above row (reasons.Unknown column) b h = absurd h
 row_cause file text head above row reasons.LineForm b h = absurd h
-row_cause file text head above row reasons.Limit b h = tt
+row_cause file text head above row reasons.Limit b (inl is) = inl is
+row_cause file text head above row reasons.Limit b (inr many) =
+    let more = length-append above (row ∷ []) in
+    inr (head, above ++ row ∷ [], b, omega (arith, more, many))
 
 pub row_refused : (file : FeedFile) (text : Text) (head : Record) (above : List Record) (row : Record) (e : FeedRefused)
     → BeginsWith text (head ∷ above ++ row ∷ []) → IsOfRow file head above row e → IsOfText file text e
@@ -151,10 +160,10 @@ row_refused file text head above row (refusals.Unread other) b h = absurd h
 row_refused file text head above row (refusals.At other line reason) b h = row_cause file text head above row reason b h
 row_refused file text head above row refusals.NoMemory b h = tt
 
--- a limit of rows
-pub limit_refused : (file : FeedFile) (text : Text) (e : FeedRefused) → IsFor reasons.Limit e → IsOfText file text e
+-- too many rows
+pub limit_refused : (file : FeedFile) (text : Text) (e : FeedRefused) → IsFor reasons.Limit e → HasManyRows text → IsOfText file text e
 unfolding IsCause
-limit_refused file text e is = for_cause file text reasons.Limit e is tt
+limit_refused file text e is many = for_cause file text reasons.Limit e is (inr many)
 
 -- a refusal for a reason of the row
 pub for_row : (file : FeedFile) (head : Record) (above : List Record) (row : Record) (reason : RowReason) (e : FeedRefused)
@@ -214,16 +223,96 @@ ends_early head above row starts ends first last e placed placed_end start end e
     for_row files.Calendar head above row (reasons.Value columns.EndDate) e is
     (refl, inr (refl, (first, last, placed row ∙ start, placed_end row ∙ end, early)))
 
--- reasons of which nothing more is said
-pub row_limit : (file : FeedFile) (head : Record) (above : List Record) (row : Record) (e : FeedRefused) → IsFor reasons.Limit e → IsOfRow file head above row e
+-- a date that stands twice
+pub date_doubled : (head : Record) (above : List Record) (row : Record) (e : FeedRefused)
+    → IsFor (reasons.Doubled columns.Date) e → IsOfRow files.CalendarDates head above row e
 unfolding IsRefused
-row_limit file head above row e is = for_row file head above row reasons.Limit e is tt
+date_doubled head above row e is = for_row files.CalendarDates head above row (reasons.Doubled columns.Date) e is (refl, inl refl)
 
-pub row_doubled : (file : FeedFile) (column : Column) (head : Record) (above : List Record) (row : Record) (e : FeedRefused)
-    → IsFor (reasons.Doubled column) e → IsOfRow file head above row e
+-- services of both calendars that are too many
+pub services_limit : (head : Record) (above : List Record) (row : Record) (e : FeedRefused) → IsFor reasons.Limit e → IsOfRow files.CalendarDates head above row e
 unfolding IsRefused
-row_doubled file column head above row e is = for_row file head above row (reasons.Doubled column) e is tt
+services_limit head above row e is = for_row files.CalendarDates head above row reasons.Limit e is (inl refl)
 
-pub row_zones : (file : FeedFile) (head : Record) (above : List Record) (row : Record) (e : FeedRefused) → IsFor reasons.TwoZones e → IsOfRow file head above row e
+-- a zone that is not that of the rows above
+pub other_zone : (head : Record) (above : List Record) (row : Record) (column : ℕ) (name : String Global) (e : FeedRefused)
+    → IsPlace head (column_name columns.AgencyTimezone) (Some column) → HoldsZone (Some name) column above
+    → at_place row (Some column) ≢ string_bytes name → IsFor reasons.TwoZones e → IsOfRow files.Agency head above row e
 unfolding IsRefused
-row_zones file head above row e is = for_row file head above row reasons.TwoZones e is tt
+other_zone head [] row column name e placed held other is = absurd (omega (arith, held.0))
+other_zone head (first ∷ above) row column name e placed held other is =
+    for_row files.Agency head (first ∷ above) row reasons.TwoZones e is
+    (refl, first, (0, held.0, refl), λ same. other (sym (placed row) ∙ sym same ∙ placed first ∙ held.1 0 first held.0))
+
+-- an element of a list of values is the value of one
+contains_at : {X Y : Type 0} (f : X → Y) (xs : List X) (y : Y) (k : ℕ) → k < length (map f xs) → get_or (map f xs) k y ≡ y → (x : X) × Contains xs x × (f x ≡ y)
+contains_at f [] y k below at = absurd (omega (arith, below))
+contains_at f (x ∷ xs) y zero below at = (x, (0, omega arith, refl), at)
+contains_at f (x ∷ xs) y (suc k) below at =
+    let (found, there, is) = contains_at f xs y k (omega (arith, below)) at in
+    (found, Contains-append_right (x ∷ []) xs found there, is)
+
+-- an id that is refused, where those that are there are the rows'
+id_reason : (file : FeedFile) (column : Column) (head : Record) (above : List Record) (row : Record) (place : ℕ) (ids : Ids) (reason : RowReason)
+    → IsTrue (checks file column) → IsBad column [] → IsTrue (doubles file column) → IsPlace head (column_name column) (Some place) → HoldsIds ids place above
+    → IsIdReason (id_texts ids) (at_place row (Some place)) column reason → IsRefused file reason head above row
+unfolding IsRefused
+id_reason file column head above row place ids reasons.Limit checked bad once placed held h =
+    let same : length (id_texts ids) ≡ length above = ap length held ∙ length-map above (λ (r : Record). at_place r (Some place)) in
+    inr (omega (arith, h, same))
+id_reason file column head above row place ids (reasons.Value other) checked bad once placed held h =
+    subst (λ (c : Column). IsRefused file (reasons.Value c) head above row) (sym h.0)
+    (checked, inl (subst (λ (t : Text). IsBad column t) (sym (placed row ∙ h.1)) bad))
+id_reason file column head above row place ids (reasons.Doubled other) checked bad once placed held h =
+    let (one, there, is) =
+    let there = subst (λ (texts : List Text). Contains texts (at_place row (Some place))) held h.1 in
+    contains_at (λ (r : Record). at_place r (Some place)) above (at_place row (Some place)) there.0 there.1 there.2
+    in
+    subst (λ (c : Column). IsRefused file (reasons.Doubled c) head above row) (sym h.0)
+    (once, inr (one, there, placed one ∙ is ∙ sym (placed row)))
+id_reason file column head above row place ids reasons.MissingFile checked bad once placed held h = absurd h
+id_reason file column head above row place ids (reasons.MissingColumn other) checked bad once placed held h = absurd h
+id_reason file column head above row place ids reasons.Width checked bad once placed held h = absurd h
+id_reason file column head above row place ids reasons.NotText checked bad once placed held h = absurd h
+id_reason file column head above row place ids reasons.TwoZones checked bad once placed held h = absurd h
+id_reason file column head above row place ids (reasons.Unknown other) checked bad once placed held h = absurd h
+id_reason file column head above row place ids reasons.LineForm checked bad once placed held h = absurd h
+
+pub id_refused : (file : FeedFile) (column : Column) (head : Record) (above : List Record) (row : Record) (place : ℕ) (ids : Ids) (e : FeedRefused)
+    → IsTrue (checks file column) → IsBad column [] → IsTrue (doubles file column) → IsPlace head (column_name column) (Some place) → HoldsIds ids place above
+    → IsIdRefusal (id_texts ids) (at_place row (Some place)) column e → IsOfRow file head above row e
+id_refused file column head above row place ids (refusals.Unread other) checked bad once placed held h = absurd h
+id_refused file column head above row place ids (refusals.At other line reason) checked bad once placed held h =
+    id_reason file column head above row place ids reason checked bad once placed held h
+id_refused file column head above row place ids refusals.NoMemory checked bad once placed held h = tt
+
+-- the id of a service that is new in the second calendar
+new_reason : (head : Record) (above : List Record) (row : Record) (place : ℕ) (ids : List Text) (reason : RowReason)
+    → IsPlace head (column_name columns.ServiceId) (Some place) → ¬ Contains ids (at_place row (Some place))
+    → IsIdReason ids (at_place row (Some place)) columns.ServiceId reason → IsRefused files.CalendarDates reason head above row
+unfolding IsRefused
+new_reason head above row place ids reasons.Limit placed new h = inl refl
+new_reason head above row place ids (reasons.Value other) placed new h =
+    subst (λ (c : Column). IsRefused files.CalendarDates (reasons.Value c) head above row) (sym h.0) (refl, inl (placed row ∙ h.1))
+new_reason head above row place ids (reasons.Doubled other) placed new h = absurd (new h.1)
+new_reason head above row place ids reasons.MissingFile placed new h = absurd h
+new_reason head above row place ids (reasons.MissingColumn other) placed new h = absurd h
+new_reason head above row place ids reasons.Width placed new h = absurd h
+new_reason head above row place ids reasons.NotText placed new h = absurd h
+new_reason head above row place ids reasons.TwoZones placed new h = absurd h
+new_reason head above row place ids (reasons.Unknown other) placed new h = absurd h
+new_reason head above row place ids reasons.LineForm placed new h = absurd h
+
+pub new_refused : (head : Record) (above : List Record) (row : Record) (place : ℕ) (ids : List Text) (e : FeedRefused)
+    → IsPlace head (column_name columns.ServiceId) (Some place) → ¬ Contains ids (at_place row (Some place))
+    → IsIdRefusal ids (at_place row (Some place)) columns.ServiceId e → IsOfRow files.CalendarDates head above row e
+new_refused head above row place ids (refusals.Unread other) placed new h = absurd h
+new_refused head above row place ids (refusals.At other line reason) placed new h = new_reason head above row place ids reason placed new h
+new_refused head above row place ids refusals.NoMemory placed new h = tt
+
+-- a refusal for a reason of an id
+pub for_id : (ids : List Text) (id : Text) (column : Column) (reason : RowReason) (e : FeedRefused)
+    → IsFor reason e → IsIdReason ids id column reason → IsIdRefusal ids id column e
+for_id ids id column reason (refusals.Unread other) is cause = absurd is
+for_id ids id column reason (refusals.At other line reason1) is cause = subst (λ (r : RowReason). IsIdReason ids id column r) (sym is) cause
+for_id ids id column reason refusals.NoMemory is cause = tt

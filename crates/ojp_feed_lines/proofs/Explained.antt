@@ -158,3 +158,8 @@ no_zone contents e is told =
     of_file contents files.Agency
     (HasTaken (λ column head. IsPlace head (column_name columns.AgencyTimezone) (Some column)) (λ column rows. HoldsZone None column rows))
     (λ bytes. IsCause files.Agency (reasons.Value columns.AgencyTimezone) (strip_bom bytes)) no_rows told)
+
+-- what holds of a refusal where another fact does
+pub on_err : {T : Type 0} (result : Result T FeedRefused) (P Q : FeedRefused → Type 0) → IfErr result P → ((e : FeedRefused) → P e → Q e) → IfErr result Q
+on_err (Ok value) P Q h f = h
+on_err (Err refused) P Q h f = f refused h

@@ -1,5 +1,6 @@
 pub mod CauseFacts
 pub mod Explained
+pub mod IdFacts
 pub mod Named
 pub mod PlaceFacts
 pub mod ReadFacts

@@ -8,10 +8,12 @@ use Rattle.ojp_values.specs.Texts.{Text}
 use Rattle.ojp_feed_rows.specs.declared.stops.Route.{Route}
 use Rattle.ojp_feed_lines.specs.Columns.{column_name}
 use Rattle.ojp_feed_lines.specs.Folders.{Files}
+use Rattle.ojp_feed_lines.specs.IdTexts.{HoldsIds}
 use Rattle.ojp_feed_lines.specs.Places.{AreRoutesOf, HoldsZone, IsZoneOf, route_at, route_texts, route_under}
 use Rattle.ojp_feed_lines.specs.Rows.{IsPlace, OfFile, Record, at_place, under}
 use Rattle.ojp_feed_lines.specs.Tables.{HasTaken, HasTakenAll}
 use Rattle.ojp_feed_lines.specs.declared.files.FeedFile.{FeedFile}
+use Rattle.ojp_feed_lines.specs.declared.ids.Ids.{Ids}
 use Rattle.ojp_feed_lines.specs.declared.columns.Column.TheVariants as columns
 use Rattle.ojp_feed_lines.specs.declared.routes.RouteColumns.{RouteColumns}
 
@@ -74,18 +76,18 @@ abbrev pub RoutePlaces : RouteColumns → Record → Type 0
 RoutePlaces c head = IsPlace head (column_name columns.RouteId) (Some c.id) × IsPlace head (column_name columns.RouteShortName) c.short_name
 
 -- the routes that were taken
-abbrev pub HoldsRoutes : List Route → RouteColumns → List Record → Type 0
-HoldsRoutes routes c rows = map route_texts routes ≡ map (route_at c.id c.short_name) rows
+abbrev pub HoldsRoutes : List Route → Ids → RouteColumns → List Record → Type 0
+HoldsRoutes routes ids c rows = (map route_texts routes ≡ map (route_at c.id c.short_name) rows) × HoldsIds ids c.id rows
 
-routes_are : (routes : List Route) (bytes : Text) → HasTaken RoutePlaces (HoldsRoutes routes) bytes → AreRoutesOf bytes routes
-routes_are routes bytes h = record {
+routes_are : (routes : List Route) (ids : Ids) (bytes : Text) → HasTaken RoutePlaces (HoldsRoutes routes ids) bytes → AreRoutesOf bytes routes
+routes_are routes ids bytes h = record {
   head = h.head;
   rows = h.rows;
   are_rows = h.all;
-  same = h.held ∙ same_maps (route_at h.columns.id h.columns.short_name) (route_under h.head) (λ row. rw (h.placed.0 row, h.placed.1 row) refl) h.rows;
+  same = h.held.0 ∙ same_maps (route_at h.columns.id h.columns.short_name) (route_under h.head) (λ row. rw (h.placed.0 row, h.placed.1 row) refl) h.rows;
 }
 
 -- the routes by the bytes of the file
-pub routes_of : (contents : Option Files) (file : FeedFile) (routes : List Route)
-    → OfFile contents file (HasTaken RoutePlaces (HoldsRoutes routes)) → OfFile contents file (λ bytes. AreRoutesOf bytes routes)
-routes_of contents file routes h = of_file contents file (HasTaken RoutePlaces (HoldsRoutes routes)) (λ bytes. AreRoutesOf bytes routes) (routes_are routes) h
+pub routes_of : (contents : Option Files) (file : FeedFile) (routes : List Route) (ids : Ids)
+    → OfFile contents file (HasTaken RoutePlaces (HoldsRoutes routes ids)) → OfFile contents file (λ bytes. AreRoutesOf bytes routes)
+routes_of contents file routes ids h = of_file contents file (HasTaken RoutePlaces (HoldsRoutes routes ids)) (λ bytes. AreRoutesOf bytes routes) (routes_are routes ids) h

@@ -1,5 +1,5 @@
 -- Why a file of a folder is refused, by its records.
-use Rattle.std.specs.Prelude.{◌≡◌, ◌≢◌, ◌<◌, ◌⊎◌, ⊤, ℕ, Bool, true, false, IsTrue, List, [], ◌∷◌, ◌++◌, length, Some, None}
+use Rattle.std.specs.Prelude.{◌≡◌, ◌≢◌, ◌<◌, ◌≤◌, ◌⊎◌, ⊤, ℕ, Bool, true, false, Contains, IsTrue, List, [], ◌∷◌, ◌++◌, length, Some, None}
 use Rattle.csv.specs.Reading.{Reached, default_config}
 use Rattle.csv.specs.Records.{AllText, field_at}
 use Rattle.csv.specs.declared.error.ErrorKind.{ErrorKind}
@@ -15,6 +15,7 @@ use Rattle.ojp_feed_lines.specs.declared.columns.Column.{Column}
 use Rattle.ojp_feed_lines.specs.declared.columns.Column.TheVariants as columns
 use Rattle.ojp_feed_lines.specs.declared.files.FeedFile.{FeedFile}
 use Rattle.ojp_feed_lines.specs.declared.files.FeedFile.TheVariants as files
+use Rattle.ojp_feed_lines.specs.declared.ids.TheConstants.{MOST_IDS}
 use Rattle.ojp_feed_lines.specs.declared.refusals.FeedRefused.{FeedRefused}
 use Rattle.ojp_feed_lines.specs.declared.refusals.FeedRefused.TheVariants as refusals
 use Rattle.ojp_feed_lines.specs.declared.refusals.RowReason.{RowReason}
@@ -87,6 +88,15 @@ checks files.StopTimes columns.PickupType = true
 checks files.StopTimes columns.DropOffType = true
 checks _ _ = false
 
+-- the columns of which no two rows may have the same
+abbrev pub doubles : FeedFile → Column → Bool
+doubles files.Stops columns.StopId = true
+doubles files.Routes columns.RouteId = true
+doubles files.Calendar columns.ServiceId = true
+doubles files.CalendarDates columns.Date = true
+doubles files.Trips columns.TripId = true
+doubles _ _ = false
+
 -- a field that is not of the form of its column
 abbrev pub IsBad : Column → Text → Type 0
 IsBad columns.AgencyTimezone text = text ≡ []
@@ -125,14 +135,22 @@ EndsEarly head row =
     (first : ℕ) × (last : ℕ) × (under head (column_name columns.StartDate) row ≡ compact_day first)
     × (under head (column_name columns.EndDate) row ≡ compact_day last) × last < first
 
--- why a row is refused, by the head line and the rows above it
+-- two rows have the same field in a column
+abbrev pub AreSame : Column → Record → Record → Record → Type 0
+AreSame column head one other = under head (column_name column) one ≡ under head (column_name column) other
+
+-- why a row is refused, by the head line and the rows above it; of a date that stands twice, and of services of both calendars that
+-- are too many, nothing more is said
 unfoldable pub IsRefused : FeedFile → RowReason → Record → List Record → Record → Type 0
 IsRefused file reasons.Width head above row = length row ≢ length head
 IsRefused file (reasons.Value column) head above row =
     IsTrue (checks file column) × (IsBad column (under head (column_name column) row) ⊎ (column ≡ columns.EndDate) × EndsEarly head row)
-IsRefused file reasons.TwoZones head above row = ⊤
-IsRefused file (reasons.Doubled column) head above row = ⊤
-IsRefused file reasons.Limit head above row = ⊤
+IsRefused file reasons.TwoZones head above row =
+    (file ≡ files.Agency) × (other : Record) × Contains above other
+    × (under head (column_name columns.AgencyTimezone) other ≢ under head (column_name columns.AgencyTimezone) row)
+IsRefused file (reasons.Doubled column) head above row =
+    IsTrue (doubles file column) × ((file ≡ files.CalendarDates) ⊎ ((other : Record) × Contains above other × AreSame column head other row))
+IsRefused file reasons.Limit head above row = (file ≡ files.CalendarDates) ⊎ MOST_IDS ≤ length above
 IsRefused file reasons.MissingFile head above row = ⊥
 IsRefused file (reasons.MissingColumn column) head above row = ⊥
 IsRefused file reasons.NotText head above row = ⊥
@@ -172,7 +190,11 @@ HasNoText text = (above : List Record) × (row : Record) × BeginsWith text (abo
 abbrev pub LacksRows : Text → Type 0
 LacksRows text = (head : Record) × HasEnded text (head ∷ [])
 
--- why a file is refused, by its text
+-- the text has as many rows as a file may have ids, or more
+abbrev pub HasManyRows : Text → Type 0
+HasManyRows text = (head : Record) × (rows : List Record) × BeginsWith text (head ∷ rows) × MOST_IDS ≤ length rows
+
+-- why a file is refused, by its text; calendar_dates.txt also where its services and those of calendar.txt are too many
 unfoldable pub IsCause : FeedFile → RowReason → Text → Type 0
 IsCause file reasons.MissingFile text = ⊥
 IsCause file (reasons.MissingColumn column) text = IsTrue (needs file column) × LacksColumn column text
@@ -184,7 +206,7 @@ IsCause file reasons.TwoZones text = HasRow (IsRefused file reasons.TwoZones) te
 IsCause file (reasons.Doubled column) text = HasRow (IsRefused file (reasons.Doubled column)) text
 IsCause file (reasons.Unknown column) text = ⊥
 IsCause file reasons.LineForm text = ⊥
-IsCause file reasons.Limit text = ⊤
+IsCause file reasons.Limit text = (file ≡ files.CalendarDates) ⊎ HasManyRows text
 
 -- the same of a refusal
 
@@ -230,3 +252,21 @@ TellsKind kind.OutOfMemory refused = IsOfNoRow refused
 -- the refusal has its cause in the row, whatever stands above it, under a head line in which the columns have these places
 abbrev pub IsOfPlaced : FeedFile → (Record → Type 0) → Record → FeedRefused → Type 0
 IsOfPlaced file places row refused = (head : Record) (above : List Record) → places head → IsOfRow file head above row refused
+
+-- why an id is not added to those that are there
+abbrev pub IsIdReason : List Text → Text → Column → RowReason → Type 0
+IsIdReason ids id column reasons.Limit = MOST_IDS ≤ length ids
+IsIdReason ids id column (reasons.Value other) = (other ≡ column) × (id ≡ [])
+IsIdReason ids id column (reasons.Doubled other) = (other ≡ column) × Contains ids id
+IsIdReason ids id column reasons.MissingFile = ⊥
+IsIdReason ids id column (reasons.MissingColumn other) = ⊥
+IsIdReason ids id column reasons.Width = ⊥
+IsIdReason ids id column reasons.NotText = ⊥
+IsIdReason ids id column reasons.TwoZones = ⊥
+IsIdReason ids id column (reasons.Unknown other) = ⊥
+IsIdReason ids id column reasons.LineForm = ⊥
+
+abbrev pub IsIdRefusal : List Text → Text → Column → FeedRefused → Type 0
+IsIdRefusal ids id column (refusals.Unread other) = ⊥
+IsIdRefusal ids id column (refusals.At other line reason) = IsIdReason ids id column reason
+IsIdRefusal ids id column refusals.NoMemory = ⊤

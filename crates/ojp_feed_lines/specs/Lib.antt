@@ -2,6 +2,7 @@ pub mod Causes
 pub mod Columns
 pub mod Fields
 pub mod Folders
+pub mod IdTexts
 pub mod Lines
 pub mod MemFolders
 pub mod Places

@@ -2,7 +2,6 @@
 use Rattle.std.specs.Prelude.{ℕ, ◌<◌, List, Some, get_or}
 use Rattle.ojp_feed_lines.specs.Columns.{column_name}
 use Rattle.ojp_feed_lines.specs.Rows.{IsPlace, Record}
-use Rattle.ojp_feed_lines.specs.declared.columns.Column.{Column}
 use Rattle.ojp_feed_lines.specs.declared.columns.Column.TheVariants as columns
 use Rattle.ojp_feed_lines.specs.declared.frequencies.FrequencyColumns.{FrequencyColumns}
 use Rattle.ojp_feed_lines.specs.declared.services.DatedColumns.{DatedColumns}

@@ -1,12 +1,11 @@
 //! Ids by number.
 
-ghost use Rattle.std.specs.Prelude.{◌≡◌, ◌∷◌, ◌++◌, [], IfErr, IfOk, IsTrue, OnOk, Some, string_bytes};
-ghost use Rattle.csv.specs.Records.{fields_of};
-ghost use Rattle.ojp_feed_lines.specs.Causes.{IsBad, IsOfPlaced, checks};
-ghost use Rattle.ojp_feed_lines.specs.Columns.{column_name};
+ghost use Rattle.std.specs.Prelude.{◌≡◌, ◌≤◌, ◌↔◌, ◌∷◌, ◌++◌, [], Contains, IfErr, IfOk, IsTrue, List, Ok, OnOk, length, false, string_bytes, true};
+ghost use Rattle.csv.specs.Records.{field_at, fields_of};
+ghost use Rattle.ojp_feed_lines.specs.Causes.{IsIdRefusal};
+ghost use Rattle.ojp_feed_lines.specs.IdTexts.{HoldsIds, id_texts};
 ghost use Rattle.ojp_feed_lines.specs.Refusals.{IsRowRefusal};
-ghost use Rattle.ojp_feed_lines.specs.Rows.{IsPlace};
-ghost use Rattle.ojp_feed_lines.specs.declared.files.FeedFile.{FeedFile};
+ghost use Rattle.ojp_feed_lines.specs.Rows.{Record, or_nothing};
 
 use crate::columns::Column;
 use crate::folder::OpenedFile;
@@ -25,7 +24,9 @@ pub(crate) struct Ids {
 }
 
 impl Ids {
-    pub fn new(alloc: Global) -> Ids {
+    pub fn new(alloc: Global) -> Ids
+        ensures { id_texts result ≡ [] }
+    {
         Ids {
             ids: IndexSet::new(alloc),
         }
@@ -39,21 +40,30 @@ impl Ids {
         }
     }
 
+    /// Whether the id is there.
+    pub fn contains(&self, id: &str) -> bool
+        ensures { result ≡ false → ¬ Contains (id_texts self.now) id.now }
+    {
+        self.ids.contains(id)
+    }
+
     /// Adds an id, and tells whether it was new.
     pub fn add(&mut self, alloc: Global, id: &str) -> Result<bool, FeedRefused>
-        ensures { IfErr result (λ e. e ≡ FeedRefused.NoMemory) }
+        ensures memory { IfErr result (λ e. e ≡ FeedRefused.NoMemory) }
+        ensures added { result ≡ Ok true → id_texts self.new ≡ id_texts self.old ++ id.now ∷ [] }
+        ensures there { result ≡ Ok false → Contains (id_texts self.old) id.now }
     {
-        let Ok(owned) = String::from_str(alloc, id) else {
-            return Err(FeedRefused::NoMemory);
-        };
-        match self.ids.insert(owned) {
+        let text = owned(alloc, id)?;
+        match self.ids.insert(text) {
             Ok(added) => Ok(added),
             Err(_) => Err(FeedRefused::NoMemory),
         }
     }
 
     /// Whether as many ids are there as a file may have.
-    pub fn is_full(&self) -> bool {
+    pub fn is_full(&self) -> bool
+        ensures { IsTrue result → MOST_IDS ≤ length (id_texts self.now) }
+    {
         self.ids.len() >= MOST_IDS
     }
 
@@ -66,8 +76,8 @@ impl Ids {
         column: Column,
     ) -> Result<(), FeedRefused>
         ensures refused { IfErr result (λ e. IsRowRefusal table.now.file e) }
-        ensures why { IfErr result (λ e. (file : FeedFile) → IsTrue (checks file column) → IsBad column []
-            → IsOfPlaced file (λ head. IsPlace head (column_name column) (Some place)) (fields_of table.now.row) e) }
+        ensures taken { OnOk result ((rows : List Record) → HoldsIds self.old place rows → HoldsIds self.new place (rows ++ fields_of table.now.row ∷ [])) }
+        ensures why { IfErr result (IsIdRefusal (id_texts self.old) (or_nothing (field_at (fields_of table.now.row) place)) column) }
     {
         if self.is_full() {
             return Err(table.refused(RowReason::Limit));

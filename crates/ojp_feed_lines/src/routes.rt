@@ -7,6 +7,7 @@ ghost use Rattle.ojp_feed_lines.specs.Refusals.{Explains, is_unread};
 ghost use Rattle.ojp_feed_lines.specs.Columns.{column_name};
 ghost use Rattle.ojp_feed_lines.specs.declared.columns.Column.{Column};
 ghost use Rattle.ojp_feed_lines.specs.declared.files.FeedFile.{FeedFile};
+ghost use Rattle.ojp_feed_lines.specs.IdTexts.{HoldsIds};
 ghost use Rattle.ojp_feed_lines.specs.Places.{AreRoutesOf, route_at, route_texts};
 ghost use Rattle.ojp_feed_lines.specs.Rows.{IsPlace, OfFile};
 
@@ -68,7 +69,7 @@ impl Rows for Routes {
 
     ghost places = { λ c head. IsPlace head (column_name Column.RouteId) (Some c.id) × IsPlace head (column_name Column.RouteShortName) c.short_name };
 
-    ghost holds = { λ s c rows. map route_texts s.routes.items ≡ map (route_at c.id c.short_name) rows };
+    ghost holds = { λ s c rows. (map route_texts s.routes.items ≡ map (route_at c.id c.short_name) rows) × HoldsIds s.ids c.id rows };
 
     fn columns<F: OpenedFile>(table: &Table<F>) -> Result<RouteColumns, FeedRefused> {
         Ok(RouteColumns {

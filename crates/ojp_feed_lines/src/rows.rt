@@ -169,7 +169,7 @@ fn take_rows<F: OpenedFile, T: Rows>(
         → T.places columns head → T.holds rows.old columns [] → IsOfText T.file text e) }
     ensures unread { IfErr result (λ e. IsTrue (is_unread e) → 0 < F.faults (reader_source table.new.rows)) }
 {
-    'taking: for _ in 0..MOST_BYTES {
+    'taking: for _count in 0..MOST_BYTES {
         if !table.next()? {
             return Ok(());
         }

@@ -1,13 +1,14 @@
 //! `calendar.txt` and `calendar_dates.txt`.
 
-ghost use Rattle.std.specs.Prelude.{◌≡◌, ◌≤◌, ⊤, IfErr, IfOk, IsTrue, Some};
-ghost use Rattle.csv.specs.Records.{fields_of};
+ghost use Rattle.std.specs.Prelude.{◌≡◌, ◌≤◌, ◌∷◌, ◌++◌, ⊤, [], IfErr, IfOk, IsTrue, List, OnOk, Some};
+ghost use Rattle.csv.specs.Records.{field_at, fields_of};
 ghost use Rattle.ojp_outside.specs.Causes.{Rose};
-ghost use Rattle.ojp_feed_lines.specs.Causes.{IsOfHead, IsOfPlaced, checks};
+ghost use Rattle.ojp_feed_lines.specs.Causes.{IsIdRefusal, IsOfHead, IsOfPlaced};
 ghost use Rattle.ojp_feed_lines.specs.Columns.{column_name};
 ghost use Rattle.ojp_feed_lines.specs.Fields.{exception_kind_of};
+ghost use Rattle.ojp_feed_lines.specs.IdTexts.{HoldsIds, id_texts};
 ghost use Rattle.ojp_feed_lines.specs.Refusals.{Explains, IsRowRefusal, is_unread};
-ghost use Rattle.ojp_feed_lines.specs.Rows.{IsPlace};
+ghost use Rattle.ojp_feed_lines.specs.Rows.{IsPlace, Record, or_nothing};
 ghost use Rattle.ojp_feed_lines.specs.RowPlaces.{DatedPlaces, WeekdayPlaces, WeeklyPlaces};
 ghost use Rattle.ojp_feed_lines.specs.declared.columns.Column.{Column};
 ghost use Rattle.ojp_feed_lines.specs.declared.files.FeedFile.{FeedFile};
@@ -127,7 +128,7 @@ impl Rows for WeeklyRows {
 
     ghost places = { WeeklyPlaces };
 
-    ghost holds = { λ _ _ _. ⊤ };
+    ghost holds = { λ s c rows. HoldsIds s.services.ids c.id rows };
 
     fn columns<F: OpenedFile>(table: &Table<F>) -> Result<WeeklyColumns, FeedRefused> {
         Ok(WeeklyColumns {
@@ -169,9 +170,10 @@ fn add_service<F: OpenedFile>(
     weekly: Option<Weekly>,
     services: &mut Services,
 ) -> Result<(), FeedRefused>
+    ensures taken { OnOk result ((rows : List Record) → HoldsIds services.old.ids place rows
+        → HoldsIds services.new.ids place (rows ++ fields_of table.now.row ∷ [])) }
     ensures refused { IfErr result (λ e. IsRowRefusal table.now.file e) }
-    ensures why { IfErr result (λ e. (file : FeedFile) → IsTrue (checks file Column.ServiceId)
-        → IsOfPlaced file (λ head. IsPlace head (column_name Column.ServiceId) (Some place)) (fields_of table.now.row) e) }
+    ensures why { IfErr result (IsIdRefusal (id_texts services.old.ids) (or_nothing (field_at (fields_of table.now.row) place)) Column.ServiceId) }
 {
     services
         .ids
@@ -306,13 +308,11 @@ fn service_of<F: OpenedFile>(
     services: &mut Services,
 ) -> Result<u32, FeedRefused>
     ensures refused { IfErr result (λ e. IsRowRefusal table.now.file e) }
-    ensures why { IfErr result (λ e. (file : FeedFile) → IsTrue (checks file Column.ServiceId)
-        → IsOfPlaced file (λ head. IsPlace head (column_name Column.ServiceId) (Some place)) (fields_of table.now.row) e) }
+    ensures why { IfErr result (λ e. IsOfPlaced FeedFile.CalendarDates (λ head. IsPlace head (column_name Column.ServiceId) (Some place)) (fields_of table.now.row) e) }
 {
-    if let Some(number) = services.ids.number(table.field(place)) {
-        return Ok(number);
+    if !services.ids.contains(table.field(place)) {
+        add_service(alloc, table, place, None, services)?;
     }
-    add_service(alloc, table, place, None, services)?;
     match services.ids.number(table.field(place)) {
         Some(number) => Ok(number),
         None => Err(table.refused(RowReason::Limit)),

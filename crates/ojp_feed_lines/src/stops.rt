@@ -1,9 +1,10 @@
 //! `stops.txt`.
 
-ghost use Rattle.std.specs.Prelude.{◌≡◌, ◌≤◌, ⊤, IfErr, IsTrue};
+ghost use Rattle.std.specs.Prelude.{◌≡◌, ◌≤◌, IfErr, IsTrue};
 ghost use Rattle.csv.specs.Records.{fields_of};
 ghost use Rattle.ojp_outside.specs.Causes.{Rose};
 ghost use Rattle.ojp_feed_lines.specs.Causes.{IsOfPlaced};
+ghost use Rattle.ojp_feed_lines.specs.IdTexts.{HoldsIds};
 ghost use Rattle.ojp_feed_lines.specs.Refusals.{Explains, IsRowRefusal, is_unread};
 ghost use Rattle.ojp_feed_lines.specs.RowPlaces.{StopPlaces};
 ghost use Rattle.ojp_feed_lines.specs.declared.columns.Column.{Column};
@@ -68,7 +69,7 @@ impl Rows for StopRows {
 
     ghost places = { StopPlaces };
 
-    ghost holds = { λ _ _ _. ⊤ };
+    ghost holds = { λ s c rows. HoldsIds s.ids c.id rows };
 
     fn columns<F: OpenedFile>(table: &Table<F>) -> Result<StopColumns, FeedRefused> {
         Ok(StopColumns {

@@ -1,12 +1,13 @@
 //! `trips.txt`.
 
-ghost use Rattle.std.specs.Prelude.{◌≡◌, ◌≤◌, ⊤, IfErr, IfOk, IsTrue, Some};
-ghost use Rattle.csv.specs.Records.{fields_of};
+ghost use Rattle.std.specs.Prelude.{◌≡◌, ◌≤◌, ◌∷◌, ◌++◌, [], IfErr, IfOk, IsTrue, List, OnOk, Some};
+ghost use Rattle.csv.specs.Records.{field_at, fields_of};
 ghost use Rattle.ojp_outside.specs.Causes.{Rose};
-ghost use Rattle.ojp_feed_lines.specs.Causes.{IsOfHead, IsOfPlaced};
+ghost use Rattle.ojp_feed_lines.specs.Causes.{IsIdRefusal, IsOfHead};
 ghost use Rattle.ojp_feed_lines.specs.Columns.{column_name};
+ghost use Rattle.ojp_feed_lines.specs.IdTexts.{HoldsIds, id_texts};
 ghost use Rattle.ojp_feed_lines.specs.Refusals.{Explains, IsRowRefusal, is_unread};
-ghost use Rattle.ojp_feed_lines.specs.Rows.{IsPlace};
+ghost use Rattle.ojp_feed_lines.specs.Rows.{IsPlace, Record, or_nothing};
 ghost use Rattle.ojp_feed_lines.specs.declared.columns.Column.{Column};
 ghost use Rattle.ojp_feed_lines.specs.declared.files.FeedFile.{FeedFile};
 
@@ -80,7 +81,9 @@ pub(crate) fn read_trips<D: Folder>(
     Ok(rows.trips)
 }
 
-fn no_trips(alloc: Global) -> Trips {
+fn no_trips(alloc: Global) -> Trips
+    ensures { id_texts result.ids ≡ [] }
+{
     Trips {
         ids: Ids::new(alloc),
         trips: Vec::new(alloc),
@@ -98,7 +101,7 @@ impl Rows for TripRows<'_> {
 
     ghost places = { λ c head. IsPlace head (column_name Column.TripId) (Some c.id) };
 
-    ghost holds = { λ _ _ _. ⊤ };
+    ghost holds = { λ s c rows. HoldsIds s.trips.ids c.id rows };
 
     fn columns<F: OpenedFile>(table: &Table<F>) -> Result<TripColumns, FeedRefused>
         ensures places { IfOk result (λ c. IsPlace (fields_of table.now.row) (column_name Column.TripId) (Some c.id)) }
@@ -135,7 +138,9 @@ fn add_trip<F: OpenedFile>(
     trips: &mut Trips,
 ) -> Result<(), FeedRefused>
     ensures refused { IfErr result (λ e. IsRowRefusal table.now.file e) }
-    ensures why { IfErr result (λ e. IsOfPlaced FeedFile.Trips (λ head. IsPlace head (column_name Column.TripId) (Some columns.id)) (fields_of table.now.row) e) }
+    ensures taken { OnOk result ((rows : List Record) → HoldsIds trips.old.ids columns.id rows
+        → HoldsIds trips.new.ids columns.id (rows ++ fields_of table.now.row ∷ [])) }
+    ensures why { IfErr result (IsIdRefusal (id_texts trips.old.ids) (or_nothing (field_at (fields_of table.now.row) columns.id)) Column.TripId) }
 {
     trips.ids.add_row(alloc, table, columns.id, Column::TripId)?;
     let id = owned(alloc, table.field(columns.id))?;

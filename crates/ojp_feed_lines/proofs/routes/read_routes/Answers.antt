@@ -6,7 +6,7 @@ use Rattle.ojp_feed_lines.proofs.routes.read_routes.Goals as goal
 
 pub returns-clause-told : goal.returns-clause-told
 returns-clause-told g c =
-    routes_of (g.D.Folder.seen c.args.folder.now).contents Routes c.take_needed.new.rows.routes.items (c.in_ok-take_needed.ensures.taken (λ columns. search rules))
+    routes_of (g.D.Folder.seen c.args.folder.now).contents Routes c.take_needed.new.rows.routes.items c.take_needed.new.rows.ids (c.in_ok-take_needed.ensures.taken (λ columns. search rules))
 
 pub returns-in_err-take_needed-clause-refused : goal.returns-in_err-take_needed-clause-refused
 returns-in_err-take_needed-clause-refused g c =

@@ -1,10 +1,9 @@
 use Rattle.std.proofs.Common.{◌≡◌, [], ◌∷◌, Result, Ok, Err, true, false, rules}
-use Rattle.std.specs.Prelude.{IfErr, OnOk}
-use Rattle.ojp_feed_lines.specs.declared.refusals.FeedRefused.{FeedRefused}
+use Rattle.std.specs.Prelude.{OnOk}
 use Rattle.csv.specs.Records.{fields_of}
 use Rattle.ojp_feed_lines.specs.Refusals.{IsTableRefusal}
 use Rattle.ojp_feed_lines.proofs.CauseFacts.{begins, head_refused, no_head}
-use Rattle.ojp_feed_lines.proofs.Explained.{passed_is, passed_on, passed_read, row_is_read, row_is_table}
+use Rattle.ojp_feed_lines.proofs.Explained.{on_err, passed_is, passed_on, passed_read, row_is_read, row_is_table}
 use Rattle.ojp_feed_lines.proofs.rows.take_table.Goals as goal
 
 pub returns-in_err-columns-clause-refused : goal.returns-in_err-columns-clause-refused
@@ -56,10 +55,6 @@ returns-in_err-columns-clause-why g c =
     let head = fields_of c.next.new.self.row in
     head_refused g.T.Rows.file text head c.in_err-columns.field-0.0
     (begins g.F.Read.remaining c.next.new.self.rows text (head ∷ []) (c.next.ensures.row found text [] read)) c.in_err-columns.ensures.why)
-
-on_err : {T : Type 0} (result : Result T FeedRefused) (P Q : FeedRefused → Type 0) → IfErr result P → ((e : FeedRefused) → P e → Q e) → IfErr result Q
-on_err (Ok value) P Q h f = h
-on_err (Err refused) P Q h f = f refused h
 
 pub returns-clause-why : goal.returns-clause-why
 returns-clause-why g c =

@@ -4,7 +4,7 @@ use Rattle.ojp_feed_lines.proofs.services.read_services.Goals as goal
 pub returns-in_err-has_weekly-clause-refused : goal.returns-in_err-has_weekly-clause-refused
 returns-in_err-has_weekly-clause-refused g c =
     rw (passed_is c.from_residual.result c.in_err-has_weekly.field-0.0 c.from_residual.ensures.1)
-    (c.in_err-has_weekly.ensures.refused (λ columns. tt))
+    (c.in_err-has_weekly.ensures.refused (λ columns. c.new.ensures))
 
 pub returns-in_err-has_dated-clause-refused : goal.returns-in_err-has_dated-clause-refused
 returns-in_err-has_dated-clause-refused g c =

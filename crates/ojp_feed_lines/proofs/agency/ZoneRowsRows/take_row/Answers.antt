@@ -1,6 +1,7 @@
 use Rattle.std.proofs.Common.{◌∙◌, Some, refl, sym}
+use Rattle.std.proofs.lemmas.Bool.{false≢true}
 use Rattle.csv.specs.Records.{fields_of}
-use Rattle.ojp_feed_lines.proofs.CauseFacts.{bad_field, row_zones}
+use Rattle.ojp_feed_lines.proofs.CauseFacts.{bad_field, other_zone}
 use Rattle.ojp_feed_lines.proofs.Explained.{passed_is}
 use Rattle.ojp_feed_lines.proofs.StandFacts.{zone_more}
 use Rattle.ojp_feed_lines.specs.declared.files.FeedFile.TheVariants.{Agency}
@@ -22,4 +23,6 @@ returns-in_err-name-in-None-clause-why g c =
 
 pub returns-else-is_same-clause-why : goal.returns-else-is_same-clause-why
 returns-else-is_same-clause-why g c =
-    λ head above placed held. row_zones Agency head above (fields_of c.args.table.now.row) c.refused.result c.refused.ensures.reason
+    λ head above placed held.
+    other_zone head above (fields_of c.args.table.now.row) c.args.column c.in-Some.name c.refused.result placed (rw c.in-Some.is at held)
+    (λ same. false≢true (sym c.if-is_same.false ∙ c.is_same.ensures.1 (c.field.ensures ∙ same ∙ sym c.as_str.ensures.value))) c.refused.ensures.reason

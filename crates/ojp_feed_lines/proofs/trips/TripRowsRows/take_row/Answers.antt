@@ -1,7 +1,14 @@
+use Rattle.std.proofs.Common.{refl}
+use Rattle.csv.specs.Records.{fields_of}
+use Rattle.ojp_feed_lines.specs.declared.columns.Column.TheVariants as columns
+use Rattle.ojp_feed_lines.specs.declared.files.FeedFile.TheVariants.{Trips}
+use Rattle.ojp_feed_lines.proofs.CauseFacts.{id_refused}
 use Rattle.ojp_feed_lines.proofs.Explained.{passed_is}
 use Rattle.ojp_feed_lines.proofs.trips.TripRowsRows.take_row.Goals as goal
 
 pub returns-in_err-add_trip-clause-why : goal.returns-in_err-add_trip-clause-why
 returns-in_err-add_trip-clause-why g c =
     rw (passed_is c.from_residual.result c.in_err-add_trip.field-0.0 c.from_residual.ensures.1)
-    (λ head above placed held. c.in_err-add_trip.ensures.why head above placed)
+    (λ head above placed held.
+    id_refused Trips columns.TripId head above (fields_of c.args.table.now.row) c.args.columns.id c.args.self.now.trips.ids c.in_err-add_trip.field-0.0 refl refl refl placed held
+    c.in_err-add_trip.ensures.why)

@@ -1,8 +1,0 @@
-use Rattle.std.proofs.Common.{[], refl}
-use Rattle.ojp_feed_lines.proofs.Explained.{passed_is}
-use Rattle.ojp_feed_lines.proofs.services.add_service.Goals as goal
-
-pub returns-in_err-add_row-clause-why : goal.returns-in_err-add_row-clause-why
-returns-in_err-add_row-clause-why g c =
-    rw (passed_is c.from_residual.result c.in_err-add_row.field-0.0 c.from_residual.ensures.1)
-    (λ file checked head above placed. c.in_err-add_row.ensures.why file checked refl head above placed)
