@@ -6,6 +6,7 @@ pub mod IdTexts
 pub mod Lines
 pub mod MemFolders
 pub mod Places
+pub mod ReasonWords
 pub mod Refusals
 pub mod RowPlaces
 pub mod Rows

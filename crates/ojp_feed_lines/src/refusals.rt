@@ -1,5 +1,8 @@
 //! Why a feed is refused.
 
+ghost use Rattle.std.specs.Prelude.{◌≡◌, ◌++◌};
+ghost use Rattle.ojp_feed_lines.specs.ReasonWords.{row_words};
+
 use crate::columns::Column;
 use crate::files::FeedFile;
 
@@ -30,7 +33,9 @@ pub enum RowReason {
 
 impl RowReason {
     /// The words of the reason, and the column that they name.
-    pub fn words(self) -> (&'static str, &'static str) {
+    pub fn words(self) -> (&'static str, &'static str)
+        ensures { result.0.now ++ result.1.now ≡ row_words self }
+    {
         match self {
             RowReason::MissingFile => ("missing file", ""),
             RowReason::MissingColumn(column) => ("missing column ", column.name()),
