@@ -1,1 +1,4 @@
 pub mod CauseFacts
+pub mod LineFacts
+pub mod RunFacts
+pub mod WordFacts

@@ -1,24 +1,22 @@
 -- Why a run fails, and what it leaves as it was.
-use Rattle.std.specs.Prelude.{◌≡◌, ◌<◌, ◌≤◌, ◌⊎◌, ◌++◌, not, length, Option, IfSome, IsSomeAnd, codes}
+use Rattle.std.specs.Prelude.{◌≡◌, ◌<◌, ◌≤◌, ◌⊎◌, length, List, Option, IfSome, IsSomeAnd}
 use Rattle.ojp_values.specs.Texts.{Text}
 use Rattle.ojp_outside.specs.Causes.{Rose}
-use Rattle.ojp_outside.specs.Seen.{StoreView}
+use Rattle.ojp_outside.specs.Seen.{SinkView, StoreView}
 use Rattle.ojp_outside.specs.declared.store.TheConstants.{FILE_LIMIT}
 use Rattle.ojp_calendars.specs.Files.{IsNoFile}
 use Rattle.ojp_calendars.specs.declared.faults.ZoneFault.{ZoneFault}
 use Rattle.ojp_calendars.specs.declared.faults.ZoneFault.TheVariants as zones
 use Rattle.ojp_feed_lines.specs.Folders.{FolderView}
+use Rattle.ojp_feed_rows.specs.declared.feed.Feed.{Feed}
+use Rattle.ojp_feed_rows.specs.declared.settings.Settings.{Settings}
+use Rattle.ojp_feed_rows.specs.declared.settings.Window.{Window}
 use Rattle.ojp_steps.specs.Lent.{Lent, before, after}
+use Rattle.ojp_gtfs_cli.specs.Feeds.{Stored, zone_path}
+use Rattle.ojp_gtfs_cli.specs.Refused.{FindsNoRule, HasNoZone, IsOtherRefused, IsRefusedFor, IsRowRefused, IsUnconverted}
+use Rattle.ojp_gtfs_cli.specs.Words.{Wanted}
 use Rattle.ojp_gtfs_cli.specs.declared.failures.Failure.{Failure}
 use Rattle.ojp_gtfs_cli.specs.declared.failures.Failure.TheVariants.{Words, Unread, Refused, Memory}
-
--- the files of a store by name, where they are told
-abbrev pub Stored : Type 0
-Stored = Option (Text → Option Text)
-
--- the file of a zone, below the folder of zone files
-abbrev pub zone_path : Text → Text → Text
-zone_path zoneinfo zone = zoneinfo ++ codes "/" ++ zone
 
 -- ---- what stays
 
@@ -52,45 +50,45 @@ IsUnread zoneinfo folder store =
     Rose (before folder).faults (after folder).faults
     ⊎ (StoreFails (before store) (after store) ⊎ HasNoZoneFile zoneinfo (before store).contents)
 
--- why the bytes of a zone file give no zone: they are none; that no rule is found and want of memory are free
-abbrev pub GivesNone : Text → ZoneFault → Type 0
-GivesNone bytes zones.Memory = Unit {0}
-GivesNone bytes zones.File = IsNoFile bytes
-GivesNone bytes zones.Rule = Unit {0}
+-- why the bytes of a zone file give no zone for a window: they are none, or no rule is found; want of memory is free
+abbrev pub GivesNone : Text → Window → ZoneFault → Type 0
+GivesNone bytes window zones.Memory = Unit {0}
+GivesNone bytes window zones.File = IsNoFile bytes
+GivesNone bytes window zones.Rule = FindsNoRule bytes window
 
--- ---- the causes of a failure; a refusal and want of memory are free
+-- ---- the causes of a failure; want of memory is free
 
--- of the files of other regions
-abbrev pub OthersFailAs : StoreView → StoreView → Failure → Type 0
-OthersFailAs old new Words = ⊥
-OthersFailAs old new Unread = StoreFails old new
-OthersFailAs old new Refused = Unit {0}
-OthersFailAs old new Memory = Unit {0}
+-- of the files of other regions, which stand among these options
+abbrev pub OthersFailAs : {E : Type 0} → List Text → StoreView → StoreView → Lent E SinkView → Failure → Type 0
+OthersFailAs options old new report Words = ⊥
+OthersFailAs options old new report Unread = StoreFails old new
+OthersFailAs options old new report Refused = IsOtherRefused options old.contents report
+OthersFailAs options old new report Memory = Unit {0}
 
--- of the rows of the feed, with the operator's file
-abbrev pub RowsFailAs : FolderView → FolderView → StoreView → StoreView → Failure → Type 0
-RowsFailAs folder folder_after store store_after Words = ⊥
-RowsFailAs folder folder_after store store_after Unread = Rose folder.faults folder_after.faults ⊎ StoreFails store store_after
-RowsFailAs folder folder_after store store_after Refused = Unit {0}
-RowsFailAs folder folder_after store store_after Memory = Unit {0}
+-- of the rows of the feed, with the operator's file of this name
+abbrev pub RowsFailAs : {E : Type 0} → Text → FolderView → FolderView → StoreView → StoreView → Lent E SinkView → Failure → Type 0
+RowsFailAs operator folder folder_after store store_after report Words = ⊥
+RowsFailAs operator folder folder_after store store_after report Unread = Rose folder.faults folder_after.faults ⊎ StoreFails store store_after
+RowsFailAs operator folder folder_after store store_after report Refused = IsRowRefused folder.contents operator report
+RowsFailAs operator folder folder_after store store_after report Memory = Unit {0}
 
--- of the zone
-abbrev pub ZoneFailsAs : Text → StoreView → StoreView → Failure → Type 0
-ZoneFailsAs zoneinfo old new Words = ⊥
-ZoneFailsAs zoneinfo old new Unread = StoreFails old new ⊎ HasNoZoneFile zoneinfo old.contents
-ZoneFailsAs zoneinfo old new Refused = Unit {0}
-ZoneFailsAs zoneinfo old new Memory = Unit {0}
+-- of the zone of the feed, where this one is asked for
+abbrev pub ZoneFailsAs : {E : Type 0} → Option Text → Text → Feed → StoreView → StoreView → Lent E SinkView → Failure → Type 0
+ZoneFailsAs asked zoneinfo feed old new report Words = ⊥
+ZoneFailsAs asked zoneinfo feed old new report Unread = StoreFails old new ⊎ HasNoZoneFile zoneinfo old.contents
+ZoneFailsAs asked zoneinfo feed old new report Refused = HasNoZone asked zoneinfo old.contents feed report
+ZoneFailsAs asked zoneinfo feed old new report Memory = Unit {0}
 
 -- of the conversion
-abbrev pub ConversionFailsAs : Failure → Type 0
-ConversionFailsAs Words = ⊥
-ConversionFailsAs Unread = ⊥
-ConversionFailsAs Refused = Unit {0}
-ConversionFailsAs Memory = Unit {0}
+abbrev pub ConversionFailsAs : {E : Type 0} → Feed → Settings → Lent E SinkView → Failure → Type 0
+ConversionFailsAs feed settings report Words = ⊥
+ConversionFailsAs feed settings report Unread = ⊥
+ConversionFailsAs feed settings report Refused = IsUnconverted feed settings report
+ConversionFailsAs feed settings report Memory = Unit {0}
 
 -- of all that comes before a timetable is written
-abbrev pub FailsAs : {D S : Type 0} → Text → Lent D FolderView → Lent S StoreView → Failure → Type 0
-FailsAs zoneinfo folder store Words = ⊥
-FailsAs zoneinfo folder store Unread = IsUnread zoneinfo folder store
-FailsAs zoneinfo folder store Refused = Unit {0}
-FailsAs zoneinfo folder store Memory = Unit {0}
+abbrev pub FailsAs : {D S E : Type 0} → Wanted → Text → Lent D FolderView → Lent S StoreView → Lent E SinkView → Failure → Type 0
+FailsAs wanted zoneinfo folder store report Words = ⊥
+FailsAs wanted zoneinfo folder store report Unread = IsUnread zoneinfo folder store
+FailsAs wanted zoneinfo folder store report Refused = IsRefusedFor wanted zoneinfo (before folder).contents (before store).contents report
+FailsAs wanted zoneinfo folder store report Memory = Unit {0}

@@ -1,14 +1,18 @@
 //! From the words to a timetable that was read.
 
-ghost use Rattle.std.specs.Prelude.{◌≡◌, IfErr, IfOk, OnOk};
+ghost use Rattle.std.specs.Prelude.{◌≡◌, ◌∷◌, IfErr, IfOk, IfSome, OnOk, codes};
+ghost use Rattle.ojp_feed_lines.specs.Rows.{or_nothing};
 ghost use Rattle.ojp_steps.specs.Lent.{lent};
 ghost use Rattle.ojp_gtfs_cli.specs.Causes.{ConversionFailsAs, FailsAs, FolderGoesOn, OthersFailAs, RowsFailAs, StoreGoesOn};
-ghost use Rattle.ojp_gtfs_cli.specs.Runs.{IsConverted};
+ghost use Rattle.ojp_gtfs_cli.specs.Feeds.{IsFeedOf};
+ghost use Rattle.ojp_gtfs_cli.specs.Meanings.{text_in, wanted_by};
+ghost use Rattle.ojp_gtfs_cli.specs.Runs.{IsConverted, IsTextOf};
+ghost use Rattle.ojp_gtfs_cli.specs.Words.{StandsBehind, texts_of};
 
 use crate::failures::{
     Failure, no_memory, refused_conversion, refused_feed, refused_file, too_long, unread,
 };
-use crate::fitting::{is_limit, latest_fit};
+use crate::fitting::fit_for;
 use crate::words::Words;
 use crate::zones::zone_text;
 use ojp_feed::{Converted, convert};
@@ -29,7 +33,7 @@ pub(crate) struct Done {
 }
 
 /// Reads and converts the feed; a failure is told.
-#[tactic(auto, using(crate::proofs::CauseFacts::of_conversion, crate::proofs::CauseFacts::of_others, crate::proofs::CauseFacts::of_rows, crate::proofs::CauseFacts::of_zone, crate::proofs::CauseFacts::store_goes_on))]
+#[tactic(auto, using(crate::proofs::CauseFacts::store_goes_on))]
 pub(crate) fn convert_feed<D: Folder, S: Store, E: Sink>(
     alloc: Global,
     words: &Words<'_>,
@@ -38,10 +42,13 @@ pub(crate) fn convert_feed<D: Folder, S: Store, E: Sink>(
     store: &mut S,
     report: &mut E,
 ) -> Result<Done, Failure>
-    ensures converted { IfOk result (λ done. IsConverted done.converted.text.items) }
+    ensures converted { IfOk result (λ done. IsConverted (wanted_by words.now) zoneinfo.now (D.seen folder.old).contents (S.seen store.old).contents done.converted.text.items) }
     ensures folder { FolderGoesOn (D.seen folder.old) (D.seen folder.new) }
     ensures store { (S.seen store.new).contents ≡ (S.seen store.old).contents }
-    ensures cause { IfErr result (FailsAs zoneinfo.now (lent D.seen folder.old folder.new) (lent S.seen store.old store.new)) }
+    ensures cause { IfErr result (FailsAs (wanted_by words.now) zoneinfo.now
+        (lent D.seen folder.old folder.new)
+        (lent S.seen store.old store.new)
+        (lent E.seen report.old report.new)) }
 {
     let others = read_others(alloc, words.rest, store, report)?;
     let feed = read_rows(alloc, words, folder, store, report)?;
@@ -63,7 +70,6 @@ pub(crate) fn convert_feed<D: Folder, S: Store, E: Sink>(
 }
 
 /// The timetables of the files behind `--against`.
-#[tactic(auto, using(crate::proofs::CauseFacts::file_goes_on, crate::proofs::CauseFacts::file_kept, crate::proofs::CauseFacts::of_file, crate::proofs::CauseFacts::others_fail_later, crate::proofs::CauseFacts::store_goes_on))]
 fn read_others<S: Store, E: Sink>(
     alloc: Global,
     words: &[String],
@@ -72,28 +78,62 @@ fn read_others<S: Store, E: Sink>(
 ) -> Result<Vec<Timetable>, Failure>
     ensures kept { (S.seen store.new).contents ≡ (S.seen store.old).contents }
     ensures on { OnOk result (StoreGoesOn (S.seen store.old) (S.seen store.new)) }
-    ensures cause { IfErr result (OthersFailAs (S.seen store.old) (S.seen store.new)) }
+    ensures quiet { OnOk result (report.new ≡ report.old) }
+    ensures cause { IfErr result (OthersFailAs (texts_of words.now) (S.seen store.old) (S.seen store.new) (lent E.seen report.old report.new)) }
 {
     let mut others = Vec::new(alloc);
-    let mut is_name = false;
-    for word in words {
-        if is_name {
-            match read_table(alloc, word.as_str(), store) {
-                Ok(table) => {
-                    if others.push(table).is_err() {
-                        return Err(no_memory(report));
-                    }
-                }
-                Err(refused) => return Err(refused_file(report, word.as_str(), refused)),
-            }
-        }
-        is_name = word.as_str() == "--against";
+    let mut rest = words;
+    'words: while let Some((option, behind)) = rest.split_first() {
+        read_other(alloc, option.as_str(), behind, &mut others, store, report)?;
+        rest = behind;
     }
     Ok(others)
 }
 
+/// The timetable of the file behind the option, where that is `--against`, is added.
+#[tactic(auto, using(crate::proofs::CauseFacts::file_goes_on, crate::proofs::CauseFacts::file_kept))]
+fn read_other<S: Store, E: Sink>(
+    alloc: Global,
+    option: &str,
+    behind: &[String],
+    others: &mut Vec<Timetable>,
+    store: &mut S,
+    report: &mut E,
+) -> Result<(), Failure>
+    ensures kept { (S.seen store.new).contents ≡ (S.seen store.old).contents }
+    ensures on { OnOk result (StoreGoesOn (S.seen store.old) (S.seen store.new)) }
+    ensures quiet { OnOk result (report.new ≡ report.old) }
+    ensures cause { IfErr result (OthersFailAs (option.now ∷ texts_of behind.now) (S.seen store.old) (S.seen store.new) (lent E.seen report.old report.new)) }
+{
+    let Some(file) = other_of(option, behind) else {
+        return Ok(());
+    };
+    let table = match read_table(alloc, file, store) {
+        Ok(table) => table,
+        Err(refused) => return Err(refused_file(report, file, refused)),
+    };
+    match others.push(table) {
+        Ok(()) => Ok(()),
+        Err(_) => Err(no_memory(report)),
+    }
+}
+
+/// The file that stands behind the option, where it is `--against`.
+fn other_of<'a>(option: &str, behind: &'a [String]) -> Option<&'a str>
+    ensures { IfSome result (λ file. StandsBehind (option.now ∷ texts_of behind.now) (codes "--against") file.now) }
+{
+    if option == "--against" {
+        match behind.first() {
+            Some(file) => Some(file.as_str()),
+            None => None,
+        }
+    } else {
+        None
+    }
+}
+
 /// The rows of the feed, with the operator's.
-#[tactic(auto, using(crate::proofs::CauseFacts::of_feed, crate::proofs::CauseFacts::too_long))]
+#[tactic(auto, using(crate::proofs::CauseFacts::too_long))]
 fn read_rows<D: Folder, S: Store, E: Sink>(
     alloc: Global,
     words: &Words<'_>,
@@ -101,11 +141,16 @@ fn read_rows<D: Folder, S: Store, E: Sink>(
     store: &mut S,
     report: &mut E,
 ) -> Result<Feed, Failure>
+    ensures feed { IfOk result (IsFeedOf (D.seen folder.old).contents) }
+    ensures quiet { OnOk result (report.new ≡ report.old) }
     ensures folder { FolderGoesOn (D.seen folder.old) (D.seen folder.new) }
     ensures store { StoreGoesOn (S.seen store.old) (S.seen store.new) }
-    ensures cause { IfErr result (RowsFailAs (D.seen folder.old) (D.seen folder.new) (S.seen store.old) (S.seen store.new)) }
+    ensures cause { IfErr result (RowsFailAs (or_nothing (text_in words.now.options.exchange))
+        (D.seen folder.old) (D.seen folder.new)
+        (S.seen store.old) (S.seen store.new)
+        (lent E.seen report.old report.new)) }
 {
-    let name = words.options.exchange.unwrap_or("");
+    let name = name_or_nothing(words.options.exchange);
     let operator = match words.options.exchange {
         None => None,
         Some(file) => match store.read_file(alloc, file) {
@@ -129,26 +174,32 @@ fn read_rows<D: Folder, S: Store, E: Sink>(
     }
 }
 
+/// The name of a file, and nothing where there is none.
+fn name_or_nothing(file: Option<&str>) -> &str
+    ensures { result.now ≡ or_nothing (text_in file.entry) }
+{
+    match file {
+        Some(name) => name,
+        None => "",
+    }
+}
+
 /// The feed converted; where a limit is passed, the latest day that fits is told.
-#[tactic(auto, using(crate::proofs::CauseFacts::unconverted))]
 fn convert_rows<E: Sink>(
     alloc: Global,
     feed: Feed,
     settings: &Settings,
     report: &mut E,
 ) -> Result<(Feed, Converted), Failure>
-    ensures converted { IfOk result (λ pair. IsConverted pair.1.text.items) }
-    ensures cause { IfErr result ConversionFailsAs }
+    ensures converted { IfOk result (λ pair. IsTextOf feed settings.now pair.1.text.items) }
+    ensures quiet { OnOk result (report.new ≡ report.old) }
+    ensures cause { IfErr result (ConversionFailsAs feed settings.now (lent E.seen report.old report.new)) }
 {
     let mut feed = feed;
     match convert(alloc, &feed, settings) {
         Ok(converted) => Ok((feed, converted)),
         Err(refused) => {
-            let fits = if is_limit(refused) {
-                latest_fit(alloc, &mut feed, settings)
-            } else {
-                None
-            };
+            let fits = fit_for(alloc, refused, &mut feed, settings);
             Err(refused_conversion(report, &feed, refused, fits))
         }
     }

@@ -2,6 +2,7 @@
 #![tactic(auto)]
 
 mod converting;
+mod days;
 mod failures;
 mod fitting;
 mod report;

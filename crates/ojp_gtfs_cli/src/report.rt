@@ -1,7 +1,8 @@
 //! The report: what was written, left out, changed and passed over. A count of 0 has no line but for the first ones.
 
 use crate::converting::Done;
-use crate::failures::{day_text, put};
+use crate::days::day_text;
+use crate::failures::put;
 use itoa::Buffer;
 use ojp_feed_plans::{Counts, Tally};
 use ojp_feed_rows::Passed;

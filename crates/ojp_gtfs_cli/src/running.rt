@@ -3,7 +3,8 @@
 ghost use Rattle.std.specs.Prelude.{◌≡◌};
 ghost use Rattle.ojp_steps.specs.Lent.{IsUnused, lent};
 ghost use Rattle.ojp_gtfs_cli.specs.Causes.{FolderGoesOn, IsUnread};
-ghost use Rattle.ojp_gtfs_cli.specs.Runs.{IsConverted, IsDone, IsLate, WritesAs};
+ghost use Rattle.ojp_gtfs_cli.specs.Runs.{IsDone, IsRefused, Puts, PutsAs, WritesAs};
+ghost use Rattle.ojp_gtfs_cli.specs.Words.{AskForNothing, texts_of};
 
 use crate::converting::{Done, convert_feed};
 use crate::failures::{bad_words, no_memory, tell_output};
@@ -25,7 +26,6 @@ const OUTPUT: u8 = 4;
 /// the store, which also has the operator's file and those of other regions.
 ///
 /// The timetable goes to the output, once it is read back and all else is done; the report and any failure go to `report`.
-#[tactic(auto, using(crate::proofs::CauseFacts::by_reading, crate::proofs::CauseFacts::by_words))]
 pub fn run<D: Folder, S: Store, O: Sink, E: Sink>(
     alloc: Global,
     words: &[String],
@@ -35,9 +35,22 @@ pub fn run<D: Folder, S: Store, O: Sink, E: Sink>(
     output: &mut O,
     report: &mut E,
 ) -> u8
-    ensures written { WritesAs (lent O.seen output.old output.new) result }
-    ensures words { result ≡ 2 → IsUnused (lent D.seen folder.old folder.new) × IsUnused (lent S.seen store.old store.new) }
+    // What the output gained: the timetable of the folder's feed as the words ask for it, a front of it, or nothing.
+    ensures written { WritesAs (texts_of words.now) zoneinfo.now
+        (D.seen folder.old).contents
+        (S.seen store.old).contents
+        (lent O.seen output.old output.new)
+        result }
+    // Why nothing was written.
+    ensures words { result ≡ 2 → AskForNothing (texts_of words.now) }
     ensures unread { result ≡ 3 → IsUnread zoneinfo.now (lent D.seen folder.old folder.new) (lent S.seen store.old store.new) }
+    ensures refused { result ≡ 6 → IsRefused (texts_of words.now) zoneinfo.now
+        (D.seen folder.old).contents
+        (S.seen store.old).contents
+        (lent E.seen report.old report.new) }
+    // The status of bad words is due, and nothing else is done then.
+    ensures due { AskForNothing (texts_of words.now) → result ≡ 2 }
+    ensures alone { result ≡ 2 → IsUnused (lent D.seen folder.old folder.new) × IsUnused (lent S.seen store.old store.new) }
     ensures folder { FolderGoesOn (D.seen folder.old) (D.seen folder.new) }
     ensures store { (S.seen store.new).contents ≡ (S.seen store.old).contents }
 {
@@ -59,9 +72,7 @@ fn finish<O: Sink, E: Sink>(
     output: &mut O,
     report: &mut E,
 ) -> u8
-    requires { IsConverted done.now.converted.text.items }
-    ensures written { WritesAs (lent O.seen output.old output.new) result }
-    ensures late { IsLate result }
+    ensures { PutsAs strict (lent O.seen output.old output.new) done.now.converted.text.items result }
 {
     tell(done, report);
     let seen = Seen {
@@ -80,10 +91,7 @@ fn finish<O: Sink, E: Sink>(
 
 /// Writes the text, and gives the status where that is done.
 fn write<O: Sink, E: Sink>(text: &[u8], status: u8, output: &mut O, report: &mut E) -> u8
-    requires converted { IsConverted text.now }
-    requires done { IsDone status }
-    ensures written { WritesAs (lent O.seen output.old output.new) result }
-    ensures late { IsLate result }
+    ensures { Puts (lent O.seen output.old output.new) text.now status result }
 {
     match put_all(output, text) {
         Ok(()) => status,
@@ -96,7 +104,7 @@ fn write<O: Sink, E: Sink>(text: &[u8], status: u8, output: &mut O, report: &mut
 
 /// The status by the number of lines to look at.
 fn status_of(strict: bool, told: u64) -> u8
-    ensures { IsDone result }
+    ensures { IsDone strict result }
 {
     if strict && told > 0 { LOOK } else { 0 }
 }
