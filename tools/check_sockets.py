@@ -191,7 +191,7 @@ def region_rows(path):
 
 def rows(folder):
     """The stored rows of a region over sockets: to the region by length and in a chunk, and through a gateway over it."""
-    crate = TOP / "crates/ojp_rows"
+    crate = TOP / "crates/ojp_hostile"
     stored = region_rows(crate / "stdout").replace(b"\r\n", b"\n")
     given = [row.partition(b"----\n") for row in region_rows(crate / "stdin").split(b"====\n")]
     given = [(table, body.removesuffix(b"\n")) for table, _, body in given if not body.startswith((b"raw\n", b"fails "))]

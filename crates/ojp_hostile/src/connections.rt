@@ -1,9 +1,14 @@
 //! Connections to a server, some of whose calls fail.
 
+ghost use Rattle.std.specs.Prelude.{◌<◌};
+ghost use Rattle.ojp_links.specs.Seen.{NoneLive};
+ghost use Rattle.ojp_links_mem.specs.Memory.{links_of};
+
 use crate::gates::{learned, links_to, serve_by_waits, serve_resting};
 use crate::tallies::Tally;
 use ojp_http::Served;
 use ojp_links::Runtime;
+use ojp_links_mem::MemLinks;
 use ojp_outside::{MemSink, MemSource};
 use ojp_region::serve_one;
 use ojp_scan::Scan;
@@ -12,7 +17,7 @@ use std::alloc::Global;
 use std::str;
 
 /// The most bytes of a read.
-const PIECE: usize = 64;
+pub(crate) const PIECE: usize = 64;
 
 /// The number of calls that no connection here reaches.
 const CALLS: u64 = 100;
@@ -22,10 +27,15 @@ const CALLS: u64 = 100;
 pub(crate) enum Server {
     /// The region, by its timetable.
     Region,
-    /// The gateway, with a rest after each turn.
-    Paced,
-    /// The gateway that may wait.
-    Waiting,
+    Gateway(Pace),
+}
+
+/// What a gateway does after a turn.
+#[derive(Clone, Copy)]
+pub(crate) enum Pace {
+    Rests,
+    /// It waits where nothing came.
+    Waits,
 }
 
 /// The numbers of the read and of the write that fail; 0 where none does.
@@ -42,46 +52,67 @@ pub(crate) struct Outcome {
     pub output: MemSink,
 }
 
+impl Outcome {
+    /// Whether the other connection was served alike.
+    pub fn is_same_as(&self, other: &Outcome) -> bool {
+        self.served == other.served && self.output.written() == other.output.written()
+    }
+}
+
 /// That no call fails.
 pub(crate) const NONE_FAILS: Failing = Failing { read: 0, write: 0 };
 
-/// Both ends of a connection on which these bytes come.
+/// Both ends of a connection on which these bytes come, at most `most` by a read.
 pub(crate) fn connection(
     alloc: Global,
     bytes: &[u8],
+    most: usize,
     failing: Failing,
-) -> Option<(MemSource, MemSink)> {
+) -> Option<(MemSource, MemSink)>
+    requires { 0 < most }
+{
     let bytes = Vec::from_slice(alloc, bytes).ok()?;
-    let input = MemSource::new(bytes, PIECE, one(alloc, failing.read)?);
-    Some((input, MemSink::new(alloc, one(alloc, failing.write)?)))
-}
-
-/// The number alone.
-fn one(alloc: Global, number: u64) -> Option<Vec<u64>> {
-    let mut numbers = Vec::new(alloc);
-    numbers.push(number).ok()?;
-    Some(numbers)
+    let reads = Vec::from_slice(alloc, &[failing.read]).ok()?;
+    let writes = Vec::from_slice(alloc, &[failing.write]).ok()?;
+    let input = MemSource::new(bytes, most, reads);
+    Some((input, MemSink::new(alloc, writes)))
 }
 
 /// How a server with the timetables serves the bytes.
 pub(crate) fn outcome_of<R: Runtime>(
-    rt: &mut R,
+    rt: &R,
     alloc: Global,
     server: Server,
     tables: &str,
     bytes: &[u8],
     failing: Failing,
 ) -> Option<Outcome> {
-    let (mut input, mut output) = connection(alloc, bytes, failing)?;
-    let served = match server {
-        Server::Region => by_region(alloc, tables, &mut input, &mut output)?,
-        Server::Paced => by_paced(alloc, tables, &mut input, &mut output)?,
-        Server::Waiting => by_waiting(rt, alloc, tables, &mut input, &mut output)?,
-    };
+    let (mut input, mut output) = connection(alloc, bytes, PIECE, failing)?;
+    let served = serve(rt, alloc, server, tables, &mut input, &mut output)?;
     Some(Outcome { served, output })
 }
 
-fn by_region(
+/// How the server serves the connection.
+fn serve<R: Runtime>(
+    rt: &R,
+    alloc: Global,
+    server: Server,
+    tables: &str,
+    input: &mut MemSource,
+    output: &mut MemSink,
+) -> Option<Served> {
+    let pace = match server {
+        Server::Region => return by_region(alloc, tables, input, output),
+        Server::Gateway(pace) => pace,
+    };
+    let mut links = links_to(alloc, tables, 0, 0, Vec::new(alloc))?;
+    let served = serve_over(rt, alloc, pace, &mut links, input, output);
+    drop(links);
+    served
+}
+
+/// How the region of the timetable serves the connection.
+pub(crate) fn by_region(
     alloc: Global,
     table: &str,
     input: &mut MemSource,
@@ -90,33 +121,43 @@ fn by_region(
     let Ok(table) = Timetable::read(alloc, table.as_bytes()) else {
         return None;
     };
-    let Ok(mut scan) = Scan::new(alloc, &table) else {
+    let served = by_table(alloc, &table, input, output);
+    drop(table);
+    served
+}
+
+fn by_table(
+    alloc: Global,
+    table: &Timetable,
+    input: &mut MemSource,
+    output: &mut MemSink,
+) -> Option<Served> {
+    let Ok(mut scan) = Scan::new(alloc, table) else {
         return None;
     };
-    Some(serve_one(alloc, &table, &mut scan, input, output))
+    let served = serve_one(alloc, table, &mut scan, input, output);
+    drop(scan);
+    Some(served)
 }
 
-fn by_paced(
+/// How a gateway that learns its book over the links serves the connection.
+fn serve_over<R: Runtime>(
+    rt: &R,
     alloc: Global,
-    tables: &str,
+    pace: Pace,
+    links: &mut MemLinks,
     input: &mut MemSource,
     output: &mut MemSink,
-) -> Option<Served> {
-    let mut links = links_to(alloc, tables, 0, 0, Vec::new(alloc))?;
-    let book = learned(alloc, &mut links)?;
-    Some(serve_resting(alloc, &book, &mut links, input, output))
-}
-
-fn by_waiting<R: Runtime>(
-    rt: &mut R,
-    alloc: Global,
-    tables: &str,
-    input: &mut MemSource,
-    output: &mut MemSink,
-) -> Option<Served> {
-    let mut links = links_to(alloc, tables, 0, 0, Vec::new(alloc))?;
-    let book = learned(alloc, &mut links)?;
-    Some(serve_by_waits(rt, alloc, &book, &mut links, input, output))
+) -> Option<Served>
+    requires { NoneLive (links_of links.old) }
+{
+    let book = learned(alloc, links)?;
+    let served = match pace {
+        Pace::Rests => serve_resting(alloc, &book, links, input, output),
+        Pace::Waits => serve_by_waits(rt, alloc, &book, links, input, output),
+    };
+    drop(book);
+    Some(served)
 }
 
 /// The body of a response.
@@ -126,7 +167,7 @@ pub(crate) fn body_of(output: &MemSink) -> Option<&str> {
 }
 
 /// What was written, as text.
-fn text_of(output: &MemSink) -> Option<&str> {
+pub(crate) fn text_of(output: &MemSink) -> Option<&str> {
     match str::from_utf8(output.written()) {
         Ok(text) => Some(text),
         Err(_) => None,
@@ -135,7 +176,7 @@ fn text_of(output: &MemSink) -> Option<&str> {
 
 /// Each read up to the last one fails in turn, and nothing is written then.
 pub(crate) fn failed_reads<R: Runtime>(
-    rt: &mut R,
+    rt: &R,
     alloc: Global,
     server: Server,
     tables: &str,
@@ -156,7 +197,7 @@ pub(crate) fn failed_reads<R: Runtime>(
 
 /// Each write fails in turn, and a prefix of the response is written then.
 pub(crate) fn failed_writes<R: Runtime>(
-    rt: &mut R,
+    rt: &R,
     alloc: Global,
     server: Server,
     tables: &str,
@@ -182,7 +223,7 @@ fn is_proper_prefix(part: &[u8], whole: &[u8]) -> bool {
 
 /// The bytes are cut at each length below their whole, and the request is refused as cut.
 pub(crate) fn cuts<R: Runtime>(
-    rt: &mut R,
+    rt: &R,
     alloc: Global,
     server: Server,
     tables: &str,

@@ -58,7 +58,7 @@ pub(crate) fn serve_resting(
 
 /// The same by the server that may wait.
 pub(crate) fn serve_by_waits<R: Runtime>(
-    rt: &mut R,
+    rt: &R,
     alloc: Global,
     book: &Book,
     links: &mut MemLinks,
@@ -68,5 +68,6 @@ pub(crate) fn serve_by_waits<R: Runtime>(
     requires { IsReady book.now (links_of links.old) }
     ensures { IsReady book.now (links_of links.new) }
 {
-    serve_waiting(rt, alloc, book, links, input, output).served
+    let mut lent = rt;
+    serve_waiting(&mut lent, alloc, book, links, input, output).served
 }

@@ -1,12 +1,12 @@
-//! Uses servers and a gateway in memory as hostile clients and regions might, by tables: the input has named texts,
-//! and a row a line in the texts of rows. Its stored run has what each row gives, worked out by hand from the
-//! definitions. A row over many lengths or calls gives how many there were, and that each ended as it must, or the
-//! first that did not.
+//! Uses servers and a gateway in memory. The input is two parts, each under a line of four number signs and its name: `region`
+//! is rows of what a region answers (`region.rt`), and `hostile` is texts and rows of what hostile clients and regions might do
+//! (`rows.rt`). The stored run has under the same lines what each row gives, worked out by hand from the definitions.
 #![tactic(auto)]
 
 mod connections;
 mod gates;
 mod polls;
+mod region;
 mod rows;
 mod searches;
 mod tables;
@@ -14,33 +14,35 @@ mod tallies;
 mod texts;
 mod waits;
 
-use crate::rows::{tell_asks, tell_calls, tell_polls, tell_replies, tell_searches, tell_waits};
+use ojp_links::Runtime;
 use ojp_outside::{Source, StdSource, read_all};
-use std::net::Net;
 use std::process::ExitCode;
 use std::str;
-use std::sync::Wait;
 
 /// The most bytes of the input.
 const MOST: usize = 1 << 24;
 
-fn main(mut rt: HostRuntime) -> ExitCode {
+/// What heads the rows of a region.
+const REGION: &str = "#### region\n";
+
+/// What heads the texts and rows of hostile clients and regions.
+const HOSTILE: &str = "#### hostile\n";
+
+fn main(rt: HostRuntime) -> ExitCode {
     let mut input = StdSource::new(rt.stdin());
-    match run(&mut rt, &mut input) {
+    match run(&rt, &mut input) {
         Some(()) => ExitCode::SUCCESS,
         None => ExitCode::FAILURE,
     }
 }
 
 /// Writes what each row of the input gives; none where one is no row, or reading, writing or memory fails.
-fn run<R: AllocGlobal + Print + Wait + Net, I: Source>(rt: &mut R, input: &mut I) -> Option<()> {
-    let alloc = rt.alloc();
-    let texts = read_all(alloc, input, MOST).ok()?;
-    let texts = str::from_utf8(texts.as_slice()).ok()?;
-    tell_asks(rt, alloc, texts)?;
-    tell_calls(rt, alloc, texts)?;
-    tell_searches(rt, alloc, texts)?;
-    tell_replies(rt, alloc, texts)?;
-    tell_polls(rt, alloc, texts)?;
-    tell_waits(rt, alloc, texts)
+fn run<R: AllocGlobal + Print + Runtime, I: Source>(rt: &R, input: &mut I) -> Option<()> {
+    let text = read_all(rt.alloc(), input, MOST).ok()?;
+    let text = str::from_utf8(text.as_slice()).ok()?;
+    let (rows, texts) = text.strip_prefix(REGION)?.split_once(HOSTILE)?;
+    print!(rt; "{REGION}").ok()?;
+    region::tell_rows(rt, rows)?;
+    print!(rt; "{HOSTILE}").ok()?;
+    rows::tell_texts(rt, texts)
 }

@@ -35,9 +35,11 @@ pub(crate) struct Told {
 pub(crate) fn told_of(alloc: Global, texts: &str, row: &str) -> Option<Told> {
     let (most, request) = row.split_once(" ")?;
     let most = read_number(most.as_bytes())? as usize;
-    let ask = ask_of(alloc, document(texts, request)?)?;
+    let request = document(texts, request)?;
     let mut links = links_to(alloc, named(texts, "a")?, 0, most, Vec::new(alloc))?;
-    hear_first(alloc, &mut links, ask)
+    let told = ask_first(alloc, &mut links, request);
+    drop(links);
+    told
 }
 
 /// The ask that the text spells.
@@ -51,29 +53,31 @@ fn ask_of(alloc: Global, text: &str) -> Option<Ask>
 }
 
 /// Asks the first region.
-fn hear_first<L: PacedLinks>(alloc: Global, links: &mut L, ask: Ask) -> Option<Told>
-    requires { IsWellAsk ask }
-{
+fn ask_first<L: PacedLinks>(alloc: Global, links: &mut L, request: &str) -> Option<Told> {
     if links.regions() == 0 {
         return None;
     }
+    let ask = ask_of(alloc, request)?;
     match Subreply::begin(alloc, links, 0, ask, true) {
-        Ok(sub) => hear(links, sub),
+        Ok(mut sub) => {
+            let told = hear(links, &mut sub);
+            drop(sub);
+            told
+        }
         Err(_) => None,
     }
 }
 
 /// Polls the subrequest until it is over, with a rest after each poll.
-fn hear<L: PacedLinks>(links: &mut L, sub: Subreply) -> Option<Told>
-    requires { IsHeldIn sub (L.seen links.old) }
+fn hear<L: PacedLinks>(links: &mut L, sub: &mut Subreply) -> Option<Told>
+    requires { IsHeldIn sub.old (L.seen links.old) }
 {
-    let mut sub = sub;
     let mut polls = Polls {
         pending: 0,
         moved: 0,
     };
     'polls: for _ in 0..MOST {
-        if let Some(end) = poll_once(links, &mut sub, &mut polls) {
+        if let Some(end) = poll_once(links, sub, &mut polls) {
             return Some(Told { polls, end });
         }
     }
@@ -111,10 +115,16 @@ pub(crate) fn spelled(alloc: Global, end: SubEnd) -> Option<MemSink> {
 
 fn spelled_delivery(alloc: Global, delivery: Delivery) -> Option<MemSink> {
     let document = Doc::Delivery(delivery);
+    let spelled = spelled_document(alloc, &document);
+    drop(document);
+    spelled
+}
+
+fn spelled_document(alloc: Global, document: &Doc) -> Option<MemSink> {
     if !document.is_well() {
         return None;
     }
     let mut sink = MemSink::new(alloc, Vec::new(alloc));
-    write(&document, &mut sink).ok()?;
+    write(document, &mut sink).ok()?;
     Some(sink)
 }

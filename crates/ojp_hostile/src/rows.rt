@@ -1,20 +1,34 @@
-//! Rows of each kind, with what they give.
+//! Rows of what hostile clients and regions might do. The part is named texts, parted by lines of four equals signs; those
+//! named `asks`, `calls`, `searches`, `replies`, `polls` and `waits` have rows, a line each, in the names of others. A row over
+//! many lengths or calls gives how many there were, and that each ended as it must, or the first that did not.
 
 use crate::connections::{
-    NONE_FAILS, Outcome, Server, body_of, cuts, failed_reads, failed_writes, outcome_of,
+    NONE_FAILS, Outcome, Pace, Server, body_of, cuts, failed_reads, failed_writes, outcome_of,
+    text_of,
 };
-use crate::polls::{spelled, told_of};
+use crate::polls::{Polls, spelled, told_of};
 use crate::searches::{cut_replies, search};
 use crate::tallies::{Tally, tell_tally};
 use crate::texts::{document, named, request_of};
 use crate::waits::wait_for;
 use ojp_links::Runtime;
+use ojp_outside::MemSink;
 use ojp_values::read_number;
 use std::alloc::Global;
-use std::str;
+
+/// Writes what each row gives.
+pub(crate) fn tell_texts<R: AllocGlobal + Print + Runtime>(rt: &R, texts: &str) -> Option<()> {
+    let alloc = rt.alloc();
+    tell_asks(rt, alloc, texts)?;
+    tell_calls(rt, alloc, texts)?;
+    tell_searches(rt, alloc, texts)?;
+    tell_replies(rt, alloc, texts)?;
+    tell_polls(rt, alloc, texts)?;
+    tell_waits(rt, alloc, texts)
+}
 
 /// Each request goes to the three servers, which answer alike.
-pub(crate) fn tell_asks<R: Print + Runtime>(rt: &mut R, alloc: Global, texts: &str) -> Option<()> {
+fn tell_asks<R: Print + Runtime>(rt: &R, alloc: Global, texts: &str) -> Option<()> {
     for row in named(texts, "asks")?.lines() {
         let bytes = request_of(alloc, texts, row)?;
         tell_ask(rt, alloc, texts, row, bytes.as_slice())?;
@@ -24,24 +38,43 @@ pub(crate) fn tell_asks<R: Print + Runtime>(rt: &mut R, alloc: Global, texts: &s
 
 /// Writes the answer of the region, and whether the gateways have the same.
 fn tell_ask<R: Print + Runtime>(
-    rt: &mut R,
+    rt: &R,
     alloc: Global,
     texts: &str,
     row: &str,
     bytes: &[u8],
 ) -> Option<()> {
     let tables = named(texts, "a")?;
-    let first = outcome_of(rt, alloc, Server::Region, tables, bytes, NONE_FAILS)?;
-    let second = outcome_of(rt, alloc, Server::Paced, tables, bytes, NONE_FAILS)?;
-    let third = outcome_of(rt, alloc, Server::Waiting, tables, bytes, NONE_FAILS)?;
-    let is_same = is_same_as(&first, &second) && is_same_as(&first, &third);
-    let served = first.served;
-    let body = short(texts, body_of(&first.output)?)?;
+    let outcome = outcome_of(rt, alloc, Server::Region, tables, bytes, NONE_FAILS)?;
+    tell_alike(rt, alloc, texts, row, bytes, &outcome)
+}
+
+fn tell_alike<R: Print + Runtime>(
+    rt: &R,
+    alloc: Global,
+    texts: &str,
+    row: &str,
+    bytes: &[u8],
+    outcome: &Outcome,
+) -> Option<()> {
+    let is_same = is_alike(rt, alloc, Pace::Rests, texts, bytes, outcome)?
+        && is_alike(rt, alloc, Pace::Waits, texts, bytes, outcome)?;
+    let (served, body) = (outcome.served, short(texts, body_of(&outcome.output)?)?);
     println!(rt; "{row}: {served:?} {body}, alike {is_same}").ok()
 }
 
-fn is_same_as(first: &Outcome, second: &Outcome) -> bool {
-    first.served == second.served && first.output.written() == second.output.written()
+/// Whether the gateway has the same outcome.
+fn is_alike<R: Runtime>(
+    rt: &R,
+    alloc: Global,
+    pace: Pace,
+    texts: &str,
+    bytes: &[u8],
+    outcome: &Outcome,
+) -> Option<bool> {
+    let (server, tables) = (Server::Gateway(pace), named(texts, "a")?);
+    let other = outcome_of(rt, alloc, server, tables, bytes, NONE_FAILS)?;
+    Some(other.is_same_as(outcome))
 }
 
 /// The body, or that it is the trip.
@@ -53,7 +86,7 @@ fn short<'a>(texts: &str, body: &'a str) -> Option<&'a str> {
 }
 
 /// Each row has a server, what befalls its calls or bytes, and the request.
-pub(crate) fn tell_calls<R: Print + Runtime>(rt: &mut R, alloc: Global, texts: &str) -> Option<()> {
+fn tell_calls<R: Print + Runtime>(rt: &R, alloc: Global, texts: &str) -> Option<()> {
     for row in named(texts, "calls")?.lines() {
         let tally = tally_of(rt, alloc, texts, row)?;
         tell_tally(rt, row, tally)?;
@@ -61,7 +94,7 @@ pub(crate) fn tell_calls<R: Print + Runtime>(rt: &mut R, alloc: Global, texts: &
     Some(())
 }
 
-fn tally_of<R: Runtime>(rt: &mut R, alloc: Global, texts: &str, row: &str) -> Option<Tally> {
+fn tally_of<R: Runtime>(rt: &R, alloc: Global, texts: &str, row: &str) -> Option<Tally> {
     let (server, rest) = row.split_once(" ")?;
     let (fate, request) = rest.split_once(" ")?;
     let server = server_of(server)?;
@@ -78,14 +111,14 @@ fn tally_of<R: Runtime>(rt: &mut R, alloc: Global, texts: &str, row: &str) -> Op
 fn server_of(word: &str) -> Option<Server> {
     match word {
         "region" => Some(Server::Region),
-        "paced" => Some(Server::Paced),
-        "waiting" => Some(Server::Waiting),
+        "paced" => Some(Server::Gateway(Pace::Rests)),
+        "waiting" => Some(Server::Gateway(Pace::Waits)),
         _ => None,
     }
 }
 
 /// Each row is a search over regions with a script.
-pub(crate) fn tell_searches<R: Print>(rt: &mut R, alloc: Global, texts: &str) -> Option<()> {
+fn tell_searches<R: Print>(rt: &R, alloc: Global, texts: &str) -> Option<()> {
     for row in named(texts, "searches")?.lines() {
         let outcome = search(alloc, texts, row)?;
         tell_outcome(rt, texts, row, &outcome)?;
@@ -100,7 +133,7 @@ fn tell_outcome<R: Print>(rt: &R, texts: &str, row: &str, outcome: &Outcome) -> 
 }
 
 /// Each row is the most bytes of a look at replies that are cut.
-pub(crate) fn tell_replies<R: Print>(rt: &mut R, alloc: Global, texts: &str) -> Option<()> {
+fn tell_replies<R: Print>(rt: &R, alloc: Global, texts: &str) -> Option<()> {
     for row in named(texts, "replies")?.lines() {
         let most = read_number(row.as_bytes())? as usize;
         let tally = cut_replies(alloc, texts, most)?;
@@ -110,7 +143,7 @@ pub(crate) fn tell_replies<R: Print>(rt: &mut R, alloc: Global, texts: &str) -> 
 }
 
 /// Each row is one subrequest.
-pub(crate) fn tell_polls<R: Print>(rt: &mut R, alloc: Global, texts: &str) -> Option<()> {
+fn tell_polls<R: Print>(rt: &R, alloc: Global, texts: &str) -> Option<()> {
     for row in named(texts, "polls")?.lines() {
         tell_poll(rt, alloc, texts, row)?;
     }
@@ -119,18 +152,36 @@ pub(crate) fn tell_polls<R: Print>(rt: &mut R, alloc: Global, texts: &str) -> Op
 
 fn tell_poll<R: Print>(rt: &R, alloc: Global, texts: &str, row: &str) -> Option<()> {
     let told = told_of(alloc, texts, row)?;
-    let (pending, moved) = (told.polls.pending, told.polls.moved);
+    let polls = told.polls;
     let heard = spelled(alloc, told.end)?;
-    let body = short(texts, str::from_utf8(heard.written()).ok()?)?;
+    tell_heard(rt, texts, row, polls, &heard)
+}
+
+/// Writes the document that was heard, and by how many polls.
+fn tell_heard<R: Print>(
+    rt: &R,
+    texts: &str,
+    row: &str,
+    polls: Polls,
+    heard: &MemSink,
+) -> Option<()> {
+    let Polls { pending, moved } = polls;
+    let body = short(texts, text_of(heard)?)?;
     println!(rt; "{row}: {pending} pending, {moved} moved, {body}").ok()
 }
 
 /// Each row is a search by the gateway that may wait.
-pub(crate) fn tell_waits<R: Print + Runtime>(rt: &mut R, alloc: Global, texts: &str) -> Option<()> {
+fn tell_waits<R: Print + Runtime>(rt: &R, alloc: Global, texts: &str) -> Option<()> {
     for row in named(texts, "waits")?.lines() {
-        let (outcome, rests) = wait_for(rt, alloc, texts, row)?;
-        tell_outcome(rt, texts, row, &outcome)?;
+        let rests = tell_wait(rt, alloc, texts, row)?;
         println!(rt; "{rests} rests").ok()?;
     }
     Some(())
+}
+
+/// Writes the answer, and gives how many rests it took.
+fn tell_wait<R: Print + Runtime>(rt: &R, alloc: Global, texts: &str, row: &str) -> Option<u64> {
+    let (outcome, rests) = wait_for(rt, alloc, texts, row)?;
+    tell_outcome(rt, texts, row, &outcome)?;
+    Some(rests)
 }

@@ -1,10 +1,10 @@
 //! Searches over regions some of whose asks fail or have other replies.
 
-ghost use Rattle.std.specs.Prelude.{IfSome};
+ghost use Rattle.ojp_links.specs.Seen.{NoneLive};
 ghost use Rattle.ojp_links_mem.specs.Memory.{links_of};
 ghost use Rattle.ojp_hostile.specs.Ready.{IsReady};
 
-use crate::connections::{NONE_FAILS, Outcome, body_of, connection};
+use crate::connections::{NONE_FAILS, Outcome, PIECE, body_of, connection};
 use crate::gates::{learned, links_to, serve_resting};
 use crate::tallies::Tally;
 use crate::texts::{document, named, request_of};
@@ -52,11 +52,22 @@ pub(crate) fn search(alloc: Global, texts: &str, row: &str) -> Option<Outcome> {
     let (order, rest) = rest.split_once(" ")?;
     let (request, words) = rest.split_once(" ").unwrap_or((rest, ""));
     let order = u64::from(read_number(order.as_bytes())?);
-    let script = script_of(alloc, texts, words)?;
+    let tables = named(texts, tables)?;
     let bytes = request_of(alloc, texts, request)?;
-    let mut links = links_to(alloc, named(texts, tables)?, order, 0, script)?;
-    let book = learned(alloc, &mut links)?;
-    post(alloc, &book, &mut links, bytes.as_slice())
+    let mut links = links_to(alloc, tables, order, 0, script_of(alloc, texts, words)?)?;
+    let outcome = post_first(alloc, &mut links, bytes.as_slice());
+    drop(links);
+    outcome
+}
+
+/// Posts the request to a gateway that learns its book over the links.
+fn post_first(alloc: Global, links: &mut MemLinks, bytes: &[u8]) -> Option<Outcome>
+    requires { NoneLive (links_of links.old) }
+{
+    let book = learned(alloc, links)?;
+    let outcome = post(alloc, &book, links, bytes);
+    drop(book);
+    outcome
 }
 
 /// Posts the request to the gateway.
@@ -64,7 +75,7 @@ fn post(alloc: Global, book: &Book, links: &mut MemLinks, bytes: &[u8]) -> Optio
     requires { IsReady book.now (links_of links.old) }
     ensures { IsReady book.now (links_of links.new) }
 {
-    let (mut input, mut output) = connection(alloc, bytes, NONE_FAILS)?;
+    let (mut input, mut output) = connection(alloc, bytes, PIECE, NONE_FAILS)?;
     let served = serve_resting(alloc, book, links, &mut input, &mut output);
     Some(Outcome { served, output })
 }
@@ -76,34 +87,61 @@ pub(crate) fn cut_replies(alloc: Global, texts: &str, most: usize) -> Option<Tal
     let bytes = request_of(alloc, texts, "post")?;
     let mut tally = Tally::new();
     for length in 0..reply.len() {
-        let both = around(alloc, texts, &reply[..length], most, bytes.as_slice())?;
-        tally.count(length as u64, is_overcome(texts, &both)?);
+        let is_right = is_overcome(alloc, texts, &reply[..length], most, bytes.as_slice())?;
+        tally.count(length as u64, is_right);
     }
     Some(tally)
 }
 
-/// The answers to two requests, where the fourth ask has this reply.
-fn around(
+/// Whether the region fails for the request, and the next request is answered, where the fourth ask has this reply.
+fn is_overcome(
     alloc: Global,
     texts: &str,
     reply: &[u8],
     most: usize,
     bytes: &[u8],
-) -> Option<(Outcome, Outcome)> {
-    let mut script = Vec::new(alloc);
+) -> Option<bool> {
+    let tables = named(texts, "a")?;
+    let mut links = links_to(alloc, tables, 4, most, script_with(alloc, reply)?)?;
+    let is_right = is_overcome_over(alloc, texts, &mut links, bytes);
+    drop(links);
+    is_right
+}
+
+/// That the fourth ask has this reply.
+fn script_with(alloc: Global, reply: &[u8]) -> Option<Vec<Script>> {
     let what = What::Reply(Vec::from_slice(alloc, reply).ok()?);
+    let mut script = Vec::new(alloc);
     script.push(Script { ask: 4, what }).ok()?;
-    let mut links = links_to(alloc, named(texts, "a")?, 4, most, script)?;
-    let book = learned(alloc, &mut links)?;
-    let first = post(alloc, &book, &mut links, bytes)?;
-    let second = post(alloc, &book, &mut links, bytes)?;
-    Some((first, second))
+    Some(script)
+}
+
+/// The same by a gateway that learns its book over the links.
+fn is_overcome_over(alloc: Global, texts: &str, links: &mut MemLinks, bytes: &[u8]) -> Option<bool>
+    requires { NoneLive (links_of links.old) }
+{
+    let book = learned(alloc, links)?;
+    let is_right = are_failed_and_trip(alloc, texts, &book, links, bytes);
+    drop(book);
+    is_right
 }
 
 /// Whether the first answer is that the region failed, and the second is the trip.
-fn is_overcome(texts: &str, both: &(Outcome, Outcome)) -> Option<bool> {
-    let (first, second) = both;
-    let has_failed = body_of(&first.output)? == document(texts, "failed")?;
-    let is_trip = body_of(&second.output)? == document(texts, "trip")?;
-    Some(has_failed && is_trip)
+fn are_failed_and_trip(
+    alloc: Global,
+    texts: &str,
+    book: &Book,
+    links: &mut MemLinks,
+    bytes: &[u8],
+) -> Option<bool>
+    requires { IsReady book.now (links_of links.old) }
+{
+    let first = post(alloc, book, links, bytes)?;
+    let second = post(alloc, book, links, bytes)?;
+    Some(is_document(texts, &first, "failed")? && is_document(texts, &second, "trip")?)
+}
+
+/// Whether the answer is the document with the name.
+fn is_document(texts: &str, outcome: &Outcome, name: &str) -> Option<bool> {
+    Some(body_of(&outcome.output)? == document(texts, name)?)
 }

@@ -1,6 +1,6 @@
 //! Timetables of the input.
 
-ghost use Rattle.std.specs.Prelude.{◌≡◌, IfSome, map};
+ghost use Rattle.std.specs.Prelude.{◌≡◌, ◌++◌, ◌∷◌, [], IfSome, map};
 ghost use Rattle.std.specs.List.{list_any};
 ghost use Rattle.ojp_values.specs.Texts.{same};
 ghost use Rattle.ojp_links.specs.Seen.{AreDistinct, region_of_table};
@@ -31,13 +31,19 @@ fn add_table(tables: &mut Vec<Timetable>, codes: &mut Vec<Code>, table: Timetabl
     ensures { IfSome result (λ done. AreOfRegions codes.new.items tables.new.items) }
 {
     let code = table.region();
+    add(tables, table)?;
     if has_code(codes.as_slice(), &code) {
         return None;
     }
-    let Ok(()) = tables.push(table) else {
-        return None;
-    };
-    let Ok(()) = codes.push(code) else {
+    add(codes, code)?;
+    Some(())
+}
+
+/// Adds the item behind the others; none for want of memory.
+fn add<T: Drop>(items: &mut Vec<T>, item: T) -> Option<()>
+    ensures { IfSome result (λ done. items.new.items ≡ items.old.items ++ item ∷ []) }
+{
+    let Ok(()) = items.push(item) else {
         return None;
     };
     Some(())

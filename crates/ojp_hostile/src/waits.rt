@@ -5,7 +5,7 @@ ghost use Rattle.ojp_links.specs.Seen.{NoneLive};
 ghost use Rattle.ojp_links_mem.specs.Memory.{links_of};
 ghost use Rattle.ojp_hostile.specs.Ready.{HasCodes, IsReady};
 
-use crate::connections::{NONE_FAILS, Outcome, connection};
+use crate::connections::{NONE_FAILS, Outcome, PIECE, connection};
 use crate::gates::serve_by_waits;
 use crate::tables::{has_code, tables_of};
 use crate::texts::{named, request_of};
@@ -19,7 +19,7 @@ use std::alloc::Global;
 /// What the gateway that may wait answers, and how many rests it took: the row has the timetables, the request, and
 /// the codes of the regions.
 pub(crate) fn wait_for<R: Runtime>(
-    rt: &mut R,
+    rt: &R,
     alloc: Global,
     texts: &str,
     row: &str,
@@ -28,11 +28,26 @@ pub(crate) fn wait_for<R: Runtime>(
     let (request, codes) = rest.split_once(" ")?;
     let bytes = request_of(alloc, texts, request)?;
     let mut links = opened(alloc, named(texts, tables)?, codes)?;
-    let book = learned(rt, alloc, &mut links)?;
-    count_anew(&book, &mut links);
+    let waited = waited_for(rt, alloc, &mut links, bytes.as_slice());
+    drop(links);
+    waited
+}
+
+/// The same once the book was learned over the links.
+fn waited_for<R: Runtime>(
+    rt: &R,
+    alloc: Global,
+    links: &mut MemLinks,
+    bytes: &[u8],
+) -> Option<(Outcome, u64)>
+    requires { NoneLive (links_of links.old) }
+{
+    let book = learned(rt, alloc, links)?;
+    count_anew(&book, links);
     let before = links.rests();
-    let outcome = post(rt, alloc, &book, &mut links, bytes.as_slice())?;
-    Some((outcome, links.rests().saturating_sub(before)))
+    let outcome = post(rt, alloc, &book, links, bytes);
+    drop(book);
+    Some((outcome?, links.rests().saturating_sub(before)))
 }
 
 /// Counts asks from 1 again, in order 0.
@@ -46,7 +61,7 @@ fn count_anew(book: &Book, links: &mut MemLinks)
 
 /// Posts the request to the gateway.
 fn post<R: Runtime>(
-    rt: &mut R,
+    rt: &R,
     alloc: Global,
     book: &Book,
     links: &mut MemLinks,
@@ -54,17 +69,18 @@ fn post<R: Runtime>(
 ) -> Option<Outcome>
     requires { IsReady book.now (links_of links.old) }
 {
-    let (mut input, mut output) = connection(alloc, bytes, NONE_FAILS)?;
+    let (mut input, mut output) = connection(alloc, bytes, PIECE, NONE_FAILS)?;
     let served = serve_by_waits(rt, alloc, book, links, &mut input, &mut output);
     Some(Outcome { served, output })
 }
 
 /// The book of the regions.
-fn learned<R: Runtime>(rt: &mut R, alloc: Global, links: &mut MemLinks) -> Option<Book>
+fn learned<R: Runtime>(rt: &R, alloc: Global, links: &mut MemLinks) -> Option<Book>
     requires { NoneLive (links_of links.old) }
     ensures { IfSome result (λ book. IsReady book (links_of links.new)) }
 {
-    match learn_waiting(rt, alloc, links) {
+    let mut lent = rt;
+    match learn_waiting(&mut lent, alloc, links) {
         Ok(book) => Some(book),
         Err(_) => None,
     }
@@ -80,7 +96,10 @@ fn opened(alloc: Global, tables: &str, names: &str) -> Option<MemLinks>
     };
     let mut codes = Vec::new(alloc);
     'names: for name in names.split_whitespace() {
-        add_region(&mut links, &mut codes, name)?;
+        if add_region(&mut links, &mut codes, name).is_none() {
+            drop(links);
+            return None;
+        }
     }
     Some(links)
 }

@@ -1,8 +1,8 @@
 -- Links with one region, and an ask that stays live over rests.
-use Rattle.std.proofs.Common.{◌≡◌, ◌≢◌, ℕ, zero, suc, ◌<◌, true, List, [], ◌∷◌, length, Option, Some, None, is_some, option_map, slice_get, refl, sym, ◌∙◌, ap, subst, arith}
+use Rattle.std.proofs.Common.{◌≡◌, ℕ, zero, suc, List, [], ◌∷◌, length, Option, Some, None, is_some, option_map, refl, sym, ◌∙◌, ap, arith}
 use Rattle.std.proofs.lemmas.Option.{none-some}
 use Rattle.ojp_values.specs.Texts.{Text}
-use Rattle.ojp_links.specs.Seen.{AreDistinct, IsLive, Live, Station, View, code_at}
+use Rattle.ojp_links.specs.Seen.{AreDistinct, IsLive, Live, Station, View}
 use Rattle.ojp_links.specs.Calls.{IsNewCode, SameButRests, without_rests}
 
 pub one_distinct : (code : Text) → AreDistinct (code ∷ [])

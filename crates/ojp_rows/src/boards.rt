@@ -17,20 +17,45 @@ use ojp_exchange::Book;
 use ojp_join::joined;
 use ojp_labels::{Board, Query};
 use ojp_timetable::Timetable;
+use ojp_values::{Instant, Trip, TripAsk};
 use std::alloc::Global;
 
 /// Writes what comes of the row, and a line that ends it.
 pub(crate) fn tell<R: AllocGlobal + Print>(rt: &R, row: &str) -> Option<()> {
-    let alloc = rt.alloc();
     let (texts, rest) = row.split_once("----\n")?;
     let (ask, steps) = rest.split_once("\n")?;
-    let tables = tables_of(alloc, texts)?;
-    let book = book_of(alloc, tables.as_slice())?.ok()?;
-    match ask.strip_prefix("points ") {
-        Some(place) => show_points(rt, &book, place)?,
-        None => search(rt, tables.as_slice(), &book, ask, steps)?,
-    }
+    tell_texts(rt, texts, ask, steps)?;
     println!(rt; "====").ok()
+}
+
+fn tell_texts<R: AllocGlobal + Print>(rt: &R, texts: &str, ask: &str, steps: &str) -> Option<()> {
+    let tables = tables_of(rt.alloc(), texts)?;
+    tell_tables(rt, tables.as_slice(), ask, steps)
+}
+
+fn tell_tables<R: AllocGlobal + Print>(
+    rt: &R,
+    tables: &[Timetable],
+    ask: &str,
+    steps: &str,
+) -> Option<()> {
+    let book = book_of(rt.alloc(), tables)?.ok()?;
+    let told = tell_book(rt, tables, &book, ask, steps);
+    drop(book);
+    told
+}
+
+fn tell_book<R: AllocGlobal + Print>(
+    rt: &R,
+    tables: &[Timetable],
+    book: &Book,
+    ask: &str,
+    steps: &str,
+) -> Option<()> {
+    match ask.strip_prefix("points ") {
+        Some(place) => show_points(rt, book, place),
+        None => search(rt, tables, book, ask, steps),
+    }
 }
 
 /// Writes the exchange points of the book at the place, or all of them.
@@ -46,7 +71,7 @@ fn show_points<R: AllocGlobal + Print>(rt: &R, book: &Book, place: &str) -> Opti
     Some(())
 }
 
-/// Tells the steps of a search, and writes them and its end.
+/// Tells the steps of a search, and writes them, its end, and how many entries there are.
 fn search<R: AllocGlobal + Print>(
     rt: &R,
     tables: &[Timetable],
@@ -56,11 +81,30 @@ fn search<R: AllocGlobal + Print>(
 ) -> Option<()> {
     let ask = ask_of(ask)?;
     let mut board = board_of(rt.alloc(), book, &ask)?;
-    if board.ask() != ask || !board.told().is_empty() {
+    let count = tell_board(rt, tables, &mut board, book, &ask, steps);
+    let told = board.into_told();
+    let count = count?;
+    let is_whole = told.len() == count;
+    println!(rt; "told {count} {is_whole}").ok()
+}
+
+/// Tells the steps, writes them and the end, and gives how many entries there are.
+fn tell_board<R: AllocGlobal + Print>(
+    rt: &R,
+    tables: &[Timetable],
+    board: &mut Board,
+    book: &Book,
+    ask: &TripAsk,
+    steps: &str,
+) -> Option<usize>
+    requires { IsBoardOf board.old book.now }
+{
+    if board.ask() != *ask || !board.told().is_empty() {
         return None;
     }
-    tell_steps(rt, tables, &mut board, book, steps)?;
-    end(rt, board, book)
+    tell_steps(rt, tables, board, book, steps)?;
+    end(rt, board, book)?;
+    Some(board.told().len())
 }
 
 /// Tells the steps, a line each.
@@ -130,20 +174,16 @@ fn show_wanted<R: Print>(rt: &R, board: &Board, book: &Book) -> Option<()>
     Some(())
 }
 
-/// Writes whether nothing is wanted, the best arrival, the fault or the joined trip, and how many entries there are.
-fn end<R: AllocGlobal + Print>(rt: &R, board: Board, book: &Book) -> Option<()>
-    requires { IsBoardOf board book.now }
+/// Writes whether nothing is wanted, and the fault, or the best arrival and the joined trip.
+fn end<R: AllocGlobal + Print>(rt: &R, board: &Board, book: &Book) -> Option<()>
+    requires { IsBoardOf board.now book.now }
 {
     let is_settled = board.is_settled(book);
     println!(rt; "settled {is_settled}").ok()?;
     match board.fault(book) {
-        Some(fault) => show_fault(rt, &fault)?,
-        None => show_joined(rt, &board, book)?,
+        Some(fault) => show_fault(rt, &fault),
+        None => show_joined(rt, board, book),
     }
-    let count = board.told().len();
-    let told = board.into_told();
-    let is_whole = told.len() == count;
-    println!(rt; "told {count} {is_whole}").ok()
 }
 
 /// Writes the joined trip.
@@ -154,7 +194,12 @@ fn show_joined<R: AllocGlobal + Print>(rt: &R, board: &Board, book: &Book) -> Op
     let Ok(trip) = joined(rt.alloc(), book, board) else {
         return None;
     };
+    show_best(rt, &trip, best)
+}
+
+/// Writes whether the trip ends at the best arrival, and the trip.
+fn show_best<R: Print>(rt: &R, trip: &Trip, best: Instant) -> Option<()> {
     let is_best = trip.end == best;
     println!(rt; "best {is_best}").ok()?;
-    show_trip(rt, &trip)
+    show_trip(rt, trip)
 }

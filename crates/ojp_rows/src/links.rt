@@ -3,9 +3,11 @@
 //! the reply `hello`; `added CODE` those to which the region AA was added, with this code as its host. Links are told by
 //! their first three asks: the rests before the reply came, and the bytes of the first look.
 
+ghost use Rattle.std.specs.Prelude.{◌≤◌};
+
 mod asking;
 
-use crate::links::asking::{End, ask_first, with_region};
+use crate::links::asking::{End, add_region, ask_first};
 use crate::tables::alone;
 use crate::words::number_of;
 use ojp_links_mem::{MemLinks, Script, What};
@@ -23,9 +25,15 @@ pub(crate) fn tell<R: AllocGlobal + Print>(rt: &R, row: &str) -> Option<()> {
 /// Writes the line of links and their first three asks.
 fn tell_links<R: AllocGlobal + Print>(rt: &R, table: &str, line: &str) -> Option<()> {
     let mut links = links_of(rt.alloc(), table, line)?;
+    let told = tell_asks(rt, &mut links, line);
+    drop(links);
+    told
+}
+
+fn tell_asks<R: Print>(rt: &R, links: &mut MemLinks, line: &str) -> Option<()> {
     println!(rt; "{line}").ok()?;
     for number in 1..4_u64 {
-        tell_end(rt, number, ask_first(&mut links)?)?;
+        tell_end(rt, number, ask_first(links)?)?;
     }
     let rests = links.rests();
     println!(rt; "{rests} rests").ok()
@@ -42,19 +50,37 @@ fn tell_end<R: Print>(rt: &R, number: u64, end: End) -> Option<()> {
 
 /// The links of a line.
 fn links_of(alloc: Global, table: &str, line: &str) -> Option<MemLinks> {
-    let tables = alone(alloc, table)?;
     let (kind, rest) = line.split_once(" ")?;
     if kind == "added" {
-        let links = MemLinks::unopened(alloc, tables, 0).ok()?;
-        return with_region(links, rest);
+        return added(alloc, table, rest);
     }
     let (order, most) = rest.split_once(" ")?;
     let order = u64::from(number_of(order)?).min(10);
     let most = number_of(most)? as usize;
     if kind == "scripted" {
-        return MemLinks::scripted(alloc, tables, order, most, script(alloc)?).ok();
+        return scripted(alloc, table, order, most);
     }
-    MemLinks::new(alloc, tables, order, most).ok()
+    MemLinks::new(alloc, alone(alloc, table)?, order, most).ok()
+}
+
+/// The links to which the region AA was added, with this text as its host.
+fn added(alloc: Global, table: &str, host: &str) -> Option<MemLinks> {
+    let mut links = MemLinks::unopened(alloc, alone(alloc, table)?, 0).ok()?;
+    match add_region(&mut links, host) {
+        Some(()) => Some(links),
+        None => {
+            drop(links);
+            None
+        }
+    }
+}
+
+/// The links with the script.
+fn scripted(alloc: Global, table: &str, order: u64, most: usize) -> Option<MemLinks>
+    requires { order ≤ 10 }
+{
+    let script = script(alloc)?;
+    MemLinks::scripted(alloc, alone(alloc, table)?, order, most, script).ok()
 }
 
 /// The first ask fails, the second fails at its look, and the third has a stated reply. The last entry comes

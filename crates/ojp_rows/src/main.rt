@@ -8,7 +8,6 @@ mod calendars;
 mod feeds;
 mod links;
 mod parts;
-mod region;
 mod scans;
 mod sections;
 mod sockets;

@@ -17,11 +17,30 @@ pub(crate) fn tell<R: AllocGlobal + Print>(rt: &R, row: &str) -> Option<()> {
     let Ok(table) = Timetable::read(rt.alloc(), table.as_bytes()) else {
         return None;
     };
-    let Ok(mut scan) = Scan::new(rt.alloc(), &table) else {
+    let told = tell_table(rt, &table, &ask);
+    drop(table);
+    told
+}
+
+fn tell_table<R: AllocGlobal + Print>(rt: &R, table: &Timetable, ask: &TripAsk) -> Option<()> {
+    let Ok(mut scan) = Scan::new(rt.alloc(), table) else {
         return None;
     };
-    tell_hops(rt, &scan)?;
-    tell_trip(rt, &table, &mut scan, &ask)
+    let told = tell_scan(rt, table, &mut scan, ask);
+    drop(scan);
+    told
+}
+
+fn tell_scan<R: AllocGlobal + Print>(
+    rt: &R,
+    table: &Timetable,
+    scan: &mut Scan,
+    ask: &TripAsk,
+) -> Option<()>
+    requires { IsMadeFor scan.old table.now }
+{
+    tell_hops(rt, scan)?;
+    tell_trip(rt, table, scan, ask)
 }
 
 /// Writes a line for each hop of the scan.
@@ -43,12 +62,18 @@ fn tell_trip<R: AllocGlobal + Print>(
 ) -> Option<()>
     requires { IsMadeFor scan.old table.now }
 {
-    match answer_trip(rt.alloc(), table, scan, ask) {
-        Ok(Delivery::Trip(TripReply::Trip(trip))) => {
+    let delivery = answer_trip(rt.alloc(), table, scan, ask).ok()?;
+    let told = tell_delivery(rt, &delivery);
+    drop(delivery);
+    told
+}
+
+fn tell_delivery<R: Print>(rt: &R, delivery: &Delivery) -> Option<()> {
+    match delivery {
+        Delivery::Trip(TripReply::Trip(trip)) => {
             let (start, end, changes) = (trip.start.seconds(), trip.end.seconds(), trip.transfers);
             println!(rt; "trip {start} {end} {changes}").ok()
         }
-        Ok(_) => println!(rt; "none").ok(),
-        Err(_) => None,
+        _ => println!(rt; "none").ok(),
     }
 }

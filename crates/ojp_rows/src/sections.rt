@@ -1,6 +1,6 @@
 //! The sections of rows.
 
-use crate::{boards, calendars, feeds, links, parts, region, scans, sockets};
+use crate::{boards, calendars, feeds, links, parts, scans, sockets};
 use std::net::Net;
 use std::rt::{Clock, Files};
 use std::sync::Wait;
@@ -13,7 +13,6 @@ impl<R: AllocGlobal + Print + Files + Clock + Net + Wait> Host for R {}
 /// What the rows of a section are about.
 #[derive(Clone, Copy)]
 pub(crate) enum Section {
-    Region,
     Scans,
     Boards,
     Links,
@@ -27,7 +26,6 @@ impl Section {
     /// The section of that name.
     pub fn named(name: &str) -> Option<Section> {
         match name {
-            "region" => Some(Section::Region),
             "scans" => Some(Section::Scans),
             "boards" => Some(Section::Boards),
             "links" => Some(Section::Links),
@@ -42,8 +40,7 @@ impl Section {
     /// What stands between two rows: rows with timetables or feeds are of many lines, the others of one.
     pub fn row_end(self) -> &'static str {
         match self {
-            Section::Region | Section::Scans | Section::Boards | Section::Links | Section::Feeds =>
-                "====\n",
+            Section::Scans | Section::Boards | Section::Links | Section::Feeds => "====\n",
             Section::Sockets | Section::Parts | Section::Calendars => "\n",
         }
     }
@@ -51,7 +48,6 @@ impl Section {
     /// Writes what comes of a row; none where it is no row, or writing or memory fails.
     pub fn tell<R: Host>(self, rt: &R, row: &str) -> Option<()> {
         match self {
-            Section::Region => region::tell(rt, row),
             Section::Scans => scans::tell(rt, row),
             Section::Boards => boards::tell(rt, row),
             Section::Links => links::tell(rt, row),

@@ -82,14 +82,24 @@ fn slow<R: Runtime>(rt: &R, alloc: Global) -> Option<String> {
     let moments = Vec::from_slice(alloc, &[0, 0, 0, 20_000, 20_000, 49_999, 50_000]).ok()?;
     let clock = MemClock::new(moments);
     let mut asked = Asked::begin(alloc, rt, clock, HOST, port, REQUEST)?.ok()?;
+    let told = slow_text(rt, alloc, &listener, &mut asked);
+    asked.close();
+    told
+}
+
+fn slow_text<R: Runtime>(
+    rt: &R,
+    alloc: Global,
+    listener: &R::Listener,
+    asked: &mut Asked<&R>,
+) -> Option<String> {
     asked.wait(rt);
     let sent = asked.look();
-    let mut stream = accept(&listener)?;
+    let mut stream = accept(listener)?;
     stream.write_all(b"H").ok()?;
     asked.wait(rt);
     let (got, early, late) = (asked.look(), asked.look(), asked.look());
     let count = asked.count();
-    asked.close();
     format!(in alloc; "{sent:?} {got:?} {early:?} {late:?}, {count} bytes").ok()
 }
 
@@ -98,35 +108,59 @@ fn answered<R: Runtime>(rt: &R, alloc: Global) -> Option<String> {
     let (listener, port) = listen(rt)?;
     let clock = MemClock::new(Vec::from_slice(alloc, &[0]).ok()?);
     let mut asked = Asked::begin(alloc, rt, clock, HOST, port, REQUEST)?.ok()?;
+    let told = answered_text(rt, alloc, &listener, &mut asked);
+    asked.close();
+    told
+}
+
+fn answered_text<R: Runtime>(
+    rt: &R,
+    alloc: Global,
+    listener: &R::Listener,
+    asked: &mut Asked<&R>,
+) -> Option<String> {
     asked.wait(rt);
     let sent = asked.look();
-    let mut stream = accept(&listener)?;
-    let mut request = [0u8; REQUEST.len()];
-    stream.read_exact(&mut request).ok()?;
-    stream.write_all(b"hello").ok()?;
-    drop(stream);
+    answer(accept(listener)?)?;
     asked.wait(rt);
     let (got, end, still) = (asked.look(), asked.look(), asked.look());
     let count = asked.count();
-    asked.close();
     format!(in alloc; "{sent:?} {got:?} {end:?} {still:?}, {count} bytes").ok()
+}
+
+/// Reads the request, sends a reply and ends the connection.
+fn answer<S: Read + Write + Drop>(stream: S) -> Option<()> {
+    let mut stream = stream;
+    let mut request = [0u8; REQUEST.len()];
+    stream.read_exact(&mut request).ok()?;
+    stream.write_all(b"hello").ok()
 }
 
 /// The request is sent in pieces and the reply is taken in pieces.
 fn large<R: Runtime>(rt: &R, alloc: Global) -> Option<String> {
     let (listener, port) = listen(rt)?;
-    let clock = MemClock::new(Vec::from_slice(alloc, &[0]).ok()?);
     let request = vec![in alloc; b'a'; LARGE].ok()?;
+    let clock = MemClock::new(Vec::from_slice(alloc, &[0]).ok()?);
     let mut asked = Asked::begin(alloc, rt, clock, HOST, port, &request)?.ok()?;
+    let told = large_text(rt, alloc, &listener, &mut asked);
+    asked.close();
+    told
+}
+
+fn large_text<R: Runtime>(
+    rt: &R,
+    alloc: Global,
+    listener: &R::Listener,
+    asked: &mut Asked<&R>,
+) -> Option<String> {
     asked.wait(rt);
     let sent = asked.look();
-    let mut stream = accept(&listener)?;
-    let count = read_large(&mut asked, &mut stream)?;
+    let mut stream = accept(listener)?;
+    let count = read_large(asked, &mut stream)?;
     stream.write_all(&[b'b'; REPLY]).ok()?;
     drop(stream);
-    look_on(&mut asked, rt);
+    look_on(asked, rt);
     let taken = asked.count();
-    asked.close();
     format!(in alloc; "{sent:?}, {count} bytes there and {taken} back").ok()
 }
 

@@ -10,13 +10,17 @@ use std::str;
 pub fn tell_rows(host: &HostRuntime, rows: &str) -> Option<()> {
     for row in rows.lines() {
         let outcome = outcome_of(host, row)?;
-        if outcome.status != 0 {
-            return None;
-        }
-        let output = str::from_utf8(outcome.output.written()).ok()?;
-        println!(host; "{output}").ok()?;
+        tell_output(host, &outcome)?;
     }
     Some(())
+}
+
+fn tell_output(host: &HostRuntime, outcome: &Outcome) -> Option<()> {
+    if outcome.status != 0 {
+        return None;
+    }
+    let output = str::from_utf8(outcome.output.written()).ok()?;
+    println!(host; "{output}").ok()
 }
 
 fn outcome_of(host: &HostRuntime, row: &str) -> Option<Outcome> {

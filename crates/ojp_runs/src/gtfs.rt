@@ -45,8 +45,8 @@ fn tell<S: Store>(
     store: &mut S,
     expected: &[u8],
 ) -> Option<()> {
-    let mut folder = folder_of(alloc, row, store)?;
     let words = words_of(alloc, row.words)?;
+    let mut folder = folder_of(alloc, row, store)?;
     let mut output = MemSink::new(alloc, Vec::new(alloc));
     let mut report = MemSink::new(alloc, Vec::new(alloc));
     let status = run(
@@ -59,8 +59,17 @@ fn tell<S: Store>(
         &mut report,
     );
     let written = written_as(output.written(), expected);
-    let report = str::from_utf8(report.written()).ok()?;
-    let name = row.name;
+    tell_report(host, row.name, status, written, report.written())
+}
+
+fn tell_report(
+    host: &HostRuntime,
+    name: &str,
+    status: u8,
+    written: &str,
+    report: &[u8],
+) -> Option<()> {
+    let report = str::from_utf8(report).ok()?;
     println!(host; "{name}: status {status}, {written}\n{report}").ok()
 }
 

@@ -2,11 +2,10 @@
 
 mod questions;
 
-use crate::command::command_of;
+use crate::command::{Command, command_of};
 use crate::here::questions::answers;
-use crate::outcome::{Outcome, PIECE, outcome_here};
+use crate::outcome::{Outcome, outcome_here};
 use crate::row::{BETWEEN, file_of, row_of};
-use ojp_outside::{MemSink, MemSource, MemStore};
 use std::alloc::Global;
 
 /// Tells what comes of each row.
@@ -38,18 +37,21 @@ fn tell_held(host: &HostRuntime, holds: bool) -> Option<()> {
 /// Runs the words of the line over a store with these files, and over this input.
 fn outcome_of(alloc: Global, line: &str, files: &str, input: &str) -> Option<Outcome> {
     let command = command_of(alloc, line)?;
+    outcome_by(alloc, &command, files, input)
+}
+
+fn outcome_by(alloc: Global, command: &Command, files: &str, input: &str) -> Option<Outcome> {
     if !command.doors.is_empty() {
         return None;
     }
-    let store = store_of(alloc, files, command.store)?;
-    let input = Vec::from_slice(alloc, input.as_bytes()).ok()?;
-    let input = MemSource::new(input, PIECE, command.input);
-    let output = MemSink::new(alloc, command.output);
+    let input = command.input_of(alloc, input)?;
+    let output = command.empty_output(alloc)?;
+    let store = command.store_of(alloc, files_of(alloc, files)?)?;
     Some(outcome_here(alloc, &command.words, store, input, output))
 }
 
 /// The files of a row: the first is `a.tt`, and each other one follows its name behind four plus signs.
-fn store_of(alloc: Global, files: &str, failing: Vec<u64>) -> Option<MemStore> {
+fn files_of(alloc: Global, files: &str) -> Option<Vec<(String, Vec<u8>)>> {
     let mut named = Vec::new(alloc);
     let mut parts = files.split("++++ ");
     named.push(file_of(alloc, "a.tt", parts.next()?)?).ok()?;
@@ -57,16 +59,20 @@ fn store_of(alloc: Global, files: &str, failing: Vec<u64>) -> Option<MemStore> {
         let (name, text) = part.split_once("\n")?;
         named.push(file_of(alloc, name, text)?).ok()?;
     }
-    Some(MemStore::new(named, failing))
+    Some(named)
 }
 
 /// Whether `plan a.tt` ends with status 1 and no output over each front of the input.
 fn are_cut(alloc: Global, files: &str, input: &str) -> Option<bool> {
     for end in 0..input.len() {
         let outcome = outcome_of(alloc, "plan a.tt", files, input.get(..end)?)?;
-        if outcome.status != 1 || !outcome.output.written().is_empty() {
+        if !is_refused(&outcome) {
             return Some(false);
         }
     }
     Some(true)
+}
+
+fn is_refused(outcome: &Outcome) -> bool {
+    outcome.status == 1 && outcome.output.written().is_empty()
 }

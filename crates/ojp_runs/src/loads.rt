@@ -19,9 +19,12 @@ pub fn tell_rows(host: &HostRuntime, rows: &str) -> Option<()> {
 fn text_of(alloc: Global, number: u64) -> Option<String> {
     let mut output = MemSink::new(alloc, Vec::new(alloc));
     match load(alloc, number, &mut output) {
-        Ok(()) => {}
-        Err(_) => return None,
+        Ok(()) => written(alloc, &output),
+        Err(_) => None,
     }
+}
+
+fn written(alloc: Global, output: &MemSink) -> Option<String> {
     let text = str::from_utf8(output.written()).ok()?;
     String::from_str(alloc, text).ok()
 }

@@ -1,18 +1,18 @@
 //! Runs of the commands that may wait, over doors and links in memory.
 
-ghost use Rattle.std.specs.Prelude.{IfSome, map};
-ghost use Rattle.ojp_links.specs.Seen.{AreDistinct, region_of_table};
+ghost use Rattle.std.specs.Prelude.{◌≡◌, [], IfSome, None, false, map};
+ghost use Rattle.ojp_links.specs.Seen.{AreDistinct, NoneLive, region_of_table};
 
 mod connections;
 
-use crate::command::command_of;
+use crate::command::{Command, command_of};
 use crate::net::connections::connections_of;
-use crate::outcome::{Outcome, PIECE};
+use crate::outcome::Outcome;
 use crate::row::{BETWEEN, Row, file_of, row_of};
 use ojp_cli::run_net;
-use ojp_links::Runtime;
+use ojp_links::{Runtime, WaitLinks};
 use ojp_links_mem::MemLinks;
-use ojp_outside::{MemDoors, MemSink, MemSource, MemStore};
+use ojp_outside::{Doors, MemDoors, MemSink};
 use ojp_timetable::Timetable;
 use std::alloc::Global;
 use std::str;
@@ -24,14 +24,64 @@ const REGION_FILES: [(&str, &str); 3] = [
     ("two.txt", "AA AA 9001\nAA ZZ 9002\n"),
 ];
 
+/// A row: its command, its files, and what it sends. In place of connections, a row of `ask` has its input.
+#[derive(Drop)]
+struct Run<'a> {
+    command: Command,
+    files: &'a str,
+    input: &'a str,
+    connections: &'a str,
+}
+
+fn run_of(alloc: Global, row: &str) -> Option<Run<'_>> {
+    let Row { line, files, sent } = row_of(row)?;
+    let (input, connections) = if line.starts_with("ask ") {
+        (sent.strip_suffix("\n")?, "")
+    } else {
+        ("", sent)
+    };
+    Some(Run {
+        command: command_of(alloc, line)?,
+        files,
+        input,
+        connections,
+    })
+}
+
 /// Tells what comes of each row.
 pub fn tell_rows<R: Runtime>(host: &HostRuntime, waiting: &mut R, rows: &str) -> Option<()> {
     for row in rows.split(BETWEEN) {
-        let (outcome, doors) = outcome_of(host.alloc(), waiting, row_of(row)?)?;
-        outcome.tell(host)?;
-        tell_responses(host, &doors)?;
+        tell_row(host, waiting, row)?;
     }
     Some(())
+}
+
+fn tell_row<R: Runtime>(host: &HostRuntime, waiting: &mut R, row: &str) -> Option<()> {
+    let run = run_of(host.alloc(), row)?;
+    tell_run(host, waiting, &run)
+}
+
+/// Runs the words of a row over its timetable file and its connections, parted by lines of four hyphens, and writes what the
+/// run gave and each response.
+fn tell_run<R: Runtime>(host: &HostRuntime, waiting: &mut R, run: &Run<'_>) -> Option<()> {
+    let alloc = host.alloc();
+    let connections = connections_of(alloc, run.connections)?;
+    let mut doors = run.command.doors_of(alloc, connections)?;
+    let told = tell_over(host, waiting, run, &mut doors);
+    drop(doors);
+    told
+}
+
+fn tell_over<R: Runtime>(
+    host: &HostRuntime,
+    waiting: &mut R,
+    run: &Run<'_>,
+    doors: &mut MemDoors,
+) -> Option<()>
+    requires { doors.old.out ≡ None }
+{
+    outcome_of(host.alloc(), waiting, run, doors)?.tell(host)?;
+    tell_responses(host, doors)
 }
 
 /// Writes what each connection was answered that came back.
@@ -43,48 +93,56 @@ fn tell_responses(host: &HostRuntime, doors: &MemDoors) -> Option<()> {
     Some(())
 }
 
-/// Runs the words of a row over its timetable file and the connections, parted by lines of four hyphens. In place of
-/// connections, a row of `ask` has its input. Each region is served by the timetable of the file whose code is the host.
+/// What a run gives. Each region is served by the timetable of the file whose code is the host.
 fn outcome_of<R: Runtime>(
     alloc: Global,
     waiting: &mut R,
-    row: Row<'_>,
-) -> Option<(Outcome, MemDoors)> {
-    let command = command_of(alloc, row.line)?;
-    let (text, connections) = if row.line.starts_with("ask ") {
-        (row.sent.strip_suffix("\n")?, "")
-    } else {
-        ("", row.sent)
-    };
-    let connections = connections_of(alloc, connections)?;
-    let Ok(mut doors) = MemDoors::new(alloc, connections, command.doors) else {
+    run: &Run<'_>,
+    doors: &mut MemDoors,
+) -> Option<Outcome>
+    requires { doors.old.out ≡ None }
+{
+    let tables = tables_of(alloc, run.files)?;
+    let Ok(mut links) = MemLinks::unopened(alloc, tables, 0) else {
         return None;
     };
-    let Ok(mut links) = MemLinks::unopened(alloc, tables_of(alloc, row.files)?, 0) else {
-        return None;
-    };
-    let mut store = store_of(alloc, row.files, command.store)?;
-    let text = Vec::from_slice(alloc, text.as_bytes()).ok()?;
-    let mut input = MemSource::new(text, PIECE, command.input);
-    let mut output = MemSink::new(alloc, command.output);
+    let outcome = outcome_over(alloc, waiting, run, doors, &mut links);
+    drop(links);
+    outcome
+}
+
+fn outcome_over<R: Runtime, D: Doors, L: WaitLinks>(
+    alloc: Global,
+    waiting: &mut R,
+    run: &Run<'_>,
+    doors: &mut D,
+    links: &mut L,
+) -> Option<Outcome>
+    requires none_out { (D.seen doors.old).is_out ≡ false }
+    requires none { (L.seen links.old).fixed.stations ≡ [] }
+    requires none_live { NoneLive (L.seen links.old) }
+{
+    let mut input = run.command.input_of(alloc, run.input)?;
+    let mut output = run.command.empty_output(alloc)?;
+    let files = files_of(alloc, run.files)?;
+    let mut store = run.command.store_of(alloc, files)?;
     let mut faults = MemSink::new(alloc, Vec::new(alloc));
     let status = run_net(
         waiting,
         alloc,
-        &command.words,
+        &run.command.words,
         &mut input,
         &mut output,
         &mut faults,
         &mut store,
-        &mut doors,
-        &mut links,
+        doors,
+        links,
     );
-    let outcome = Outcome {
+    Some(Outcome {
         status,
         output,
         faults,
-    };
-    Some((outcome, doors))
+    })
 }
 
 /// The timetable of the text; none where it is not one.
@@ -100,11 +158,12 @@ fn tables_of(alloc: Global, text: &str) -> Option<Vec<Timetable>>
     Some(tables)
 }
 
-fn store_of(alloc: Global, table: &str, failing: Vec<u64>) -> Option<MemStore> {
+/// The timetable file, and the files of regions.
+fn files_of(alloc: Global, table: &str) -> Option<Vec<(String, Vec<u8>)>> {
     let mut files = Vec::new(alloc);
     files.push(file_of(alloc, "a.tt", table)?).ok()?;
     for (name, text) in REGION_FILES {
         files.push(file_of(alloc, name, text)?).ok()?;
     }
-    Some(MemStore::new(files, failing))
+    Some(files)
 }

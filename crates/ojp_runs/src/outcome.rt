@@ -45,6 +45,7 @@ pub fn outcome_here<F: Store + Drop>(
         &mut faults,
         &mut files,
     );
+    drop(files);
     Outcome {
         status,
         output,

@@ -25,5 +25,7 @@ fn answer_by(alloc: Global, table: &Timetable, ask: &Ask) -> Option<Delivery> {
     let Ok(mut scan) = Scan::new(alloc, table) else {
         return None;
     };
-    answer(alloc, table, &mut scan, ask).ok()
+    let delivery = answer(alloc, table, &mut scan, ask);
+    drop(scan);
+    delivery.ok()
 }

@@ -1,6 +1,7 @@
 //! A board, and what is told to it.
 
 ghost use Rattle.std.specs.Prelude.{◌≡◌, MatchBool, IfSome};
+ghost use Rattle.ojp_links.specs.Fits.{Fits};
 ghost use Rattle.ojp_records.specs.Records.{region_of};
 ghost use Rattle.ojp_labels.specs.Boards.{IsBoardOf};
 
@@ -9,7 +10,7 @@ use ojp_exchange::Book;
 use ojp_labels::{Board, Query};
 use ojp_links::{Expect, fits};
 use ojp_timetable::Timetable;
-use ojp_values::{Code, StopRef, TripAsk};
+use ojp_values::{Ask, Code, Delivery, StopRef, TripAsk};
 use std::alloc::Global;
 
 /// The board of the ask, to which nothing was told.
@@ -60,15 +61,30 @@ pub(crate) fn hear(
     if !board.is_wanted(book, query) {
         return None;
     }
-    let code = region_of(query);
     let Ok(ask) = board.document(book, query) else {
         return None;
     };
-    let reply = answer_of(alloc, tables, code, &ask)?;
-    if !fits(&Expect::Region { code, ask }, &reply) {
-        return None;
-    }
+    let reply = reply_of(alloc, tables, region_of(query), ask)?;
     board.hear(book, query, reply).ok()
+}
+
+/// What the region with the code answers to the ask, if it fits.
+fn reply_of(alloc: Global, tables: &[Timetable], code: Code, ask: Ask) -> Option<Delivery>
+    ensures { IfSome result (Fits code ask) }
+{
+    let Some(reply) = answer_of(alloc, tables, code, &ask) else {
+        drop(ask);
+        return None;
+    };
+    let expect = Expect::Region { code, ask };
+    let is_fit = fits(&expect, &reply);
+    drop(expect);
+    if is_fit {
+        Some(reply)
+    } else {
+        drop(reply);
+        None
+    }
 }
 
 /// Tells the failure of the query, which is wanted.

@@ -25,6 +25,13 @@ const NOTHING: Passed = Passed {
 
 /// A feed without rows, for region AA in UTC, on the first day there is.
 pub(crate) fn empty(alloc: Global) -> Option<Draft> {
+    let settings = Settings {
+        code: Code::from_bytes(b"AA")?,
+        zone: String::from_str(alloc, "+00:00").ok()?,
+        change: 60,
+        station_change: 180,
+        as_open: false,
+    };
     let feed = Feed {
         zone_name: String::new(alloc),
         stops: Vec::new(alloc),
@@ -39,13 +46,6 @@ pub(crate) fn empty(alloc: Global) -> Option<Draft> {
         },
         window: Window { first: 2, last: 2 },
         passed: NOTHING,
-    };
-    let settings = Settings {
-        code: Code::from_bytes(b"AA")?,
-        zone: String::from_str(alloc, "+00:00").ok()?,
-        change: 60,
-        station_change: 180,
-        as_open: false,
     };
     Some(Draft { feed, settings })
 }

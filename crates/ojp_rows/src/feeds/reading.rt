@@ -12,11 +12,22 @@ use std::alloc::Global;
 /// The feed of a row.
 pub(crate) fn read(alloc: Global, row: &str) -> Option<Draft> {
     let mut draft = empty(alloc)?;
-    for line in row.lines() {
-        let (word, rest) = line.split_once(" ")?;
-        read_line(alloc, &mut draft, word, rest)?;
+    match read_lines(alloc, &mut draft, row) {
+        Some(()) => Some(draft),
+        None => {
+            drop(draft);
+            None
+        }
     }
-    Some(draft)
+}
+
+/// Adds each line.
+fn read_lines(alloc: Global, draft: &mut Draft, lines: &str) -> Option<()> {
+    for line in lines.lines() {
+        let (word, rest) = line.split_once(" ")?;
+        read_line(alloc, draft, word, rest)?;
+    }
+    Some(())
 }
 
 /// The first field, and what stands behind it.

@@ -25,14 +25,12 @@ pub(crate) enum End {
     Got(u64, usize),
 }
 
-/// The links with the region AA added, whose host is this text.
-pub(crate) fn with_region(links: MemLinks, host: &str) -> Option<MemLinks>
-    requires { (links_of links).fixed.stations ≡ [] }
+/// Adds the region AA, whose host is this text.
+pub(crate) fn add_region(links: &mut MemLinks, host: &str) -> Option<()>
+    requires { (links_of links.old).fixed.stations ≡ [] }
 {
-    let mut links = links;
     let code = Code::new("AA").ok()?;
-    links.add(code, host, 80).ok()?;
-    Some(links)
+    links.add(code, host, 80).ok()
 }
 
 /// Rests until a look gives something, which it does in the end, and how often it rested.

@@ -54,6 +54,12 @@ fn refusal_text(alloc: Global, refused: BookRefused) -> Option<String> {
 /// The changes at x:P and the places of the book of a row.
 pub(crate) fn book_changes(alloc: Global, texts: &str) -> Option<String> {
     let book = joined(alloc, texts)?.ok()?;
+    let text = changes_text(alloc, &book);
+    drop(book);
+    text
+}
+
+fn changes_text(alloc: Global, book: &Book) -> Option<String> {
     let (aa, bb) = (code_of("AA")?, code_of("BB")?);
     let cc = code_of("CC")?;
     let point = stop_of("x:P")?;
@@ -69,6 +75,12 @@ pub(crate) fn book_changes(alloc: Global, texts: &str) -> Option<String> {
 /// Where the second place of the book of a row leads, and which regions serve AA:a.
 pub(crate) fn book_places(alloc: Global, texts: &str) -> Option<String> {
     let book = joined(alloc, texts)?.ok()?;
+    let text = places_text(alloc, &book);
+    drop(book);
+    text
+}
+
+fn places_text(alloc: Global, book: &Book) -> Option<String> {
     let (aa, bb) = (code_of("AA")?, code_of("BB")?);
     let stop = stop_of("AA:a")?;
     if book.places() < 2 {

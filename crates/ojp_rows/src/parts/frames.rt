@@ -67,6 +67,12 @@ pub(crate) fn refused(alloc: Global, text: &str) -> Option<String> {
 /// What each piece of a reply gives, and the body.
 pub(crate) fn replied(alloc: Global, text: &str) -> Option<String> {
     let mut reply = Reply::new(alloc);
+    let outcome = outcome_of_pieces(alloc, &mut reply, text);
+    drop(reply);
+    outcome
+}
+
+fn outcome_of_pieces(alloc: Global, reply: &mut Reply, text: &str) -> Option<String> {
     let mut body = List::new(alloc);
     let mut outcome = String::new(alloc);
     for piece in text.split("|") {
@@ -83,9 +89,15 @@ pub(crate) fn replied(alloc: Global, text: &str) -> Option<String> {
 pub(crate) fn replied_by_bytes(alloc: Global, text: &str) -> Option<String> {
     let bytes = bytes_of(alloc, text)?;
     let mut reply = Reply::new(alloc);
+    let outcome = outcome_of_bytes(alloc, &mut reply, &bytes);
+    drop(reply);
+    outcome
+}
+
+fn outcome_of_bytes(alloc: Global, reply: &mut Reply, bytes: &[u8]) -> Option<String> {
     let mut body = List::new(alloc);
     let mut count = 0_usize;
-    for byte in bytes.as_slice() {
+    for byte in bytes {
         if reply.feed(&[*byte], &mut body) == Ok(ReplyFed::More) {
             count = count.saturating_add(1);
         }

@@ -1,6 +1,6 @@
 //! Sources, sinks, stores, doors and clocks: each call once, and a failure in the middle.
 
-ghost use Rattle.std.specs.Prelude.{◌≡◌, IfSome, None};
+ghost use Rattle.std.specs.Prelude.{◌≡◌, ◌<◌, IfSome, None, false};
 
 use crate::words::text_of;
 use ojp_outside::*;
@@ -9,18 +9,29 @@ use std::io::Cursor;
 
 /// What reads of at most three bytes of `abcde` give, of which the second fails.
 pub(crate) fn source(alloc: Global) -> Option<String> {
+    let mut source = abcde(alloc, 3, &[2])?;
+    four_reads(alloc, &mut source)
+}
+
+/// A source of `abcde`, in reads of at most `most` bytes, of which those of these numbers fail.
+fn abcde(alloc: Global, most: usize, failing: &[u64]) -> Option<MemSource>
+    requires { 0 < most }
+{
     let bytes = Vec::from_slice(alloc, b"abcde").ok()?;
-    let failing = Vec::from_slice(alloc, &[2]).ok()?;
-    let mut source = MemSource::new(bytes, 3, failing);
+    let failing = Vec::from_slice(alloc, failing).ok()?;
+    Some(MemSource::new(bytes, most, failing))
+}
+
+fn four_reads<S: Source>(alloc: Global, source: &mut S) -> Option<String> {
     let mut told = String::new(alloc);
     for _ in 0..4 {
-        read_once(alloc, &mut source, &mut told)?;
+        read_once(alloc, source, &mut told)?;
     }
     Some(told)
 }
 
 /// Tells what one read gives.
-fn read_once(alloc: Global, source: &mut MemSource, told: &mut String) -> Option<()> {
+fn read_once<S: Source>(alloc: Global, source: &mut S, told: &mut String) -> Option<()> {
     let mut piece = [0u8; 8];
     let read = match source.read(&mut piece) {
         Ok(count) => {
@@ -34,14 +45,15 @@ fn read_once(alloc: Global, source: &mut MemSource, told: &mut String) -> Option
 
 /// What of `abcde` is read to a limit of three, what behind it, and what where the second read fails.
 pub(crate) fn reading(alloc: Global) -> Option<String> {
-    let bytes = Vec::from_slice(alloc, b"abcde").ok()?;
-    let mut source = MemSource::new(bytes, 2, Vec::new(alloc));
-    let front = read_all(alloc, &mut source, 3).ok()?;
-    let rest = read_all(alloc, &mut source, 9).ok()?;
-    let bytes = Vec::from_slice(alloc, b"abcde").ok()?;
-    let failing = Vec::from_slice(alloc, &[2]).ok()?;
-    let mut source = MemSource::new(bytes, 2, failing);
-    let refused = read_all(alloc, &mut source, 9).err()?;
+    let mut source = abcde(alloc, 2, &[])?;
+    let mut failing = abcde(alloc, 2, &[2])?;
+    reading_text(alloc, &mut source, &mut failing)
+}
+
+fn reading_text<S: Source>(alloc: Global, source: &mut S, failing: &mut S) -> Option<String> {
+    let front = read_all(alloc, source, 3).ok()?;
+    let rest = read_all(alloc, source, 9).ok()?;
+    let refused = read_all(alloc, failing, 9).err()?;
     let front = text_of(front.as_slice())?;
     let rest = text_of(rest.as_slice())?;
     format!(in alloc; "{front} {rest} {refused:?}").ok()
@@ -51,8 +63,12 @@ pub(crate) fn reading(alloc: Global) -> Option<String> {
 pub(crate) fn sink(alloc: Global) -> Option<String> {
     let failing = Vec::from_slice(alloc, &[4]).ok()?;
     let mut sink = MemSink::new(alloc, failing);
-    let first = put_all(&mut sink, b"ab").is_ok();
-    let second = put_parts(&mut sink, &[b"cd", b"", b"e", b"f", b"g"]).is_ok();
+    sink_text(alloc, &mut sink)
+}
+
+fn sink_text(alloc: Global, sink: &mut MemSink) -> Option<String> {
+    let first = put_all(sink, b"ab").is_ok();
+    let second = put_parts(sink, &[b"cd", b"", b"e", b"f", b"g"]).is_ok();
     let refused = sink.refused();
     let written = text_of(sink.written())?;
     format!(in alloc; "{first} {second} {written} {refused}").ok()
@@ -72,6 +88,10 @@ fn files(alloc: Global) -> Option<MemStore> {
 /// What four calls of it give.
 pub(crate) fn store(alloc: Global) -> Option<String> {
     let mut store = files(alloc)?;
+    store_text(alloc, &mut store)
+}
+
+fn store_text<S: Store>(alloc: Global, store: &mut S) -> Option<String> {
     let first = store.read_file(alloc, "a.tt").ok()?;
     let missing = store.read_file(alloc, "c.tt").err()?;
     let failed = store.read_file(alloc, "b.tt").err()?;
@@ -117,13 +137,34 @@ fn doors_of_two(alloc: Global) -> Option<MemDoors>
 /// What the doors give where one connection is asked for.
 pub(crate) fn doors(alloc: Global) -> Option<String> {
     let mut doors = doors_of_two(alloc)?;
+    let text = doors_text(alloc, &mut doors);
+    drop(doors);
+    text
+}
+
+fn doors_text<D: Doors>(alloc: Global, doors: &mut D) -> Option<String>
+where
+    D::In: Drop,
+    D::Out: Drop,
+    requires { (D.seen doors.old).is_out ≡ false }
+{
     doors.listen(80, Some(1)).ok()?;
     let failed = doors.next().err()?;
-    let (mut input, mut output) = doors.next().ok()?;
-    let bytes = read_all(alloc, &mut input, 9).ok()?;
-    put_all(&mut output, b"answer").ok()?;
-    doors.back(input, output);
+    let text = served(alloc, doors, 9)?;
     let closed = doors.next().err()?;
-    let text = text_of(bytes.as_slice())?;
     format!(in alloc; "{failed:?} {text} {closed:?}").ok()
+}
+
+/// Reads the next connection to the limit, and answers it.
+pub(crate) fn served<D: Doors>(alloc: Global, doors: &mut D, limit: usize) -> Option<String>
+    requires { (D.seen doors.old).is_out ≡ false }
+    ensures { IfSome result (λ _. (D.seen doors.new).is_out ≡ false) }
+{
+    let (mut input, mut output) = doors.next().ok()?;
+    let read = read_all(alloc, &mut input, limit);
+    let written = put_all(&mut output, b"answer");
+    doors.back(input, output);
+    written.ok()?;
+    let bytes = read.ok()?;
+    String::from_str(alloc, text_of(bytes.as_slice())?).ok()
 }

@@ -2,6 +2,7 @@
 
 ghost use Rattle.std.specs.Prelude.{◌≡◌, IfSome, false};
 
+use crate::parts::outside::served;
 use crate::words::text_of;
 use ojp_outside::*;
 use std::alloc::Global;
@@ -13,6 +14,10 @@ use std::rt::Files;
 /// What the file `a.tt` holds, and what a missing one gives.
 pub(crate) fn file<R: Files>(rt: &R, alloc: Global) -> Option<String> {
     let mut store = FileStore::new(rt);
+    file_text(alloc, &mut store)
+}
+
+fn file_text<S: Store>(alloc: Global, store: &mut S) -> Option<String> {
     let found = store.read_file(alloc, "a.tt").ok()?;
     let missing = store.read_file(alloc, "b.tt").err()?;
     let found = text_of(&found)?;
@@ -30,8 +35,17 @@ pub(crate) fn time<R: rt::Clock>(rt: &R, alloc: Global) -> Option<String> {
 /// What comes of a client that sends more than is read: what was read, the answer that it has all the same, and the end.
 pub(crate) fn sockets<R: Net>(rt: &R, alloc: Global) -> Option<String> {
     let mut doors = TcpDoors::new(rt);
-    let port = listen(&mut doors)?;
-    let answer = called(rt, alloc, &mut doors, port)?;
+    sockets_text(rt, alloc, &mut doors)
+}
+
+fn sockets_text<R: Net, D: Doors>(rt: &R, alloc: Global, doors: &mut D) -> Option<String>
+where
+    D::In: Drop,
+    D::Out: Drop,
+    requires { (D.seen doors.old).is_out ≡ false }
+{
+    let port = listen(doors)?;
+    let answer = called(rt, alloc, doors, port)?;
     let closed = doors.next().err()?;
     format!(in alloc; "{answer} {closed:?}").ok()
 }
@@ -57,7 +71,7 @@ fn called<R: Net, D: Doors>(rt: &R, alloc: Global, doors: &mut D, port: u16) -> 
     let address = format!(in alloc; "127.0.0.1:{port}").ok()?;
     let stream = TcpStream::connect(rt, address.as_str()).ok()?;
     send(&stream)?;
-    let told = served(alloc, doors)?;
+    let told = served(alloc, doors, 3)?;
     let answer = read_all(alloc, &mut StdSource::new(stream), 9).ok()?;
     let answer = text_of(answer.as_slice())?;
     format!(in alloc; "{told} {answer}").ok()
@@ -68,18 +82,4 @@ fn send<S: OpenStream + Write + Drop>(stream: &S) -> Option<()> {
     let mut peer = StdSink::new(stream.try_clone().ok()?);
     put_all(&mut peer, [b'a'; 40_000].as_slice()).ok()?;
     stream.shutdown(Shutdown::Write).ok()
-}
-
-/// Reads the front of the next connection, and answers it.
-fn served<D: Doors>(alloc: Global, doors: &mut D) -> Option<String>
-    requires { (D.seen doors.old).is_out ≡ false }
-    ensures { IfSome result (λ _. (D.seen doors.new).is_out ≡ false) }
-{
-    let (mut input, mut output) = doors.next().ok()?;
-    let read = read_all(alloc, &mut input, 3);
-    let written = put_all(&mut output, b"answer");
-    doors.back(input, output);
-    written.ok()?;
-    let bytes = read.ok()?;
-    String::from_str(alloc, text_of(bytes.as_slice())?).ok()
 }

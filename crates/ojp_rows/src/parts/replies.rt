@@ -14,10 +14,23 @@ pub(crate) fn trip_fits(alloc: Global, text: &str) -> Option<String> {
     let code = code_of(words.next()?)?;
     let start = moment_of(words.next()?)?;
     let reply = results(alloc, number_of(words.next()?)?)?;
+    let outcome = trip_outcome(alloc, code, start, &reply);
+    drop(reply);
+    outcome
+}
+
+fn trip_outcome(alloc: Global, code: Code, start: Instant, reply: &Delivery) -> Option<String> {
+    let is_of_kind = is_fit(Expect::Kind(ask_from(alloc, start)?), reply);
     let ask = ask_from(alloc, start)?;
-    let is_of_kind = fits(&Expect::Kind(ask_from(alloc, start)?), &reply);
-    let is_fit = fits(&Expect::Region { code, ask }, &reply);
+    let is_fit = is_fit(Expect::Region { code, ask }, reply);
     format!(in alloc; "{is_fit} {is_of_kind}").ok()
+}
+
+/// Whether the reply is as expected.
+fn is_fit(expect: Expect, reply: &Delivery) -> bool {
+    let is_fit = fits(&expect, reply);
+    drop(expect);
+    is_fit
 }
 
 /// A trip of one leg of AA from AA:a to AA:b.
@@ -63,6 +76,7 @@ fn ask_from(alloc: Global, start: Instant) -> Option<Ask> {
 /// Whether two departures of AA:a at the moments of a row fit an ask for two of them.
 pub(crate) fn events_fit(alloc: Global, text: &str) -> Option<String> {
     let (first, second) = text.split_once(" ")?;
+    let code = code_of("AA")?;
     let mut events = List::new(alloc);
     events.push(event(moment_of(first)?)?).ok()?;
     events.push(event(moment_of(second)?)?).ok()?;
@@ -72,7 +86,8 @@ pub(crate) fn events_fit(alloc: Global, text: &str) -> Option<String> {
         kind: EventKind::Departure,
         number: 2,
     });
-    told(alloc, ask, &Delivery::Events(EventsReply::Events(events)))
+    let reply = Delivery::Events(EventsReply::Events(events));
+    outcome_of(alloc, Expect::Region { code, ask }, reply)
 }
 
 /// A departure of J1 of the day at AA:a.
@@ -88,20 +103,21 @@ fn event(moment: Instant) -> Option<Event> {
     })
 }
 
-/// Whether the reply fits the ask of the region AA.
-fn told(alloc: Global, ask: Ask, reply: &Delivery) -> Option<String> {
-    let code = code_of("AA")?;
-    let is_fit = fits(&Expect::Region { code, ask }, reply);
+fn outcome_of(alloc: Global, expect: Expect, reply: Delivery) -> Option<String> {
+    let is_fit = is_fit(expect, &reply);
+    drop(reply);
     format!(in alloc; "{is_fit}").ok()
 }
 
 /// Whether the point of a row fits behind that of x:P, which has the neighbours BB and CC.
 pub(crate) fn points_fit(alloc: Global, text: &str) -> Option<String> {
+    let code = code_of("AA")?;
     let mut points = List::new(alloc);
     points.push(point(alloc, "x:P BB CC")?).ok()?;
     points.push(point(alloc, text)?).ok()?;
     let ask = Ask::Points(PointsAsk { place: None });
-    told(alloc, ask, &Delivery::Points(PointsReply::Points(points)))
+    let reply = Delivery::Points(PointsReply::Points(points));
+    outcome_of(alloc, Expect::Region { code, ask }, reply)
 }
 
 /// An entry of AA: its stop and its neighbours.

@@ -29,12 +29,18 @@ impl<N: Net + Drop> Asked<N> {
         port: u16,
         request: &[u8],
     ) -> Option<Result<Asked<N>, AskRefused>> {
-        let mut links = NetLinks::new(alloc, net, clock);
         let code = Code::new("AA").ok()?;
-        links.add(code, host, port).ok()?;
+        let mut links = NetLinks::new(alloc, net, clock);
+        if links.add(code, host, port).is_err() {
+            drop(links);
+            return None;
+        }
         match links.ask(0, request) {
             Ok(sub) => Some(Ok(Asked { links, sub })),
-            Err(refused) => Some(Err(refused)),
+            Err(refused) => {
+                drop(links);
+                Some(Err(refused))
+            }
         }
     }
 
@@ -56,5 +62,6 @@ impl<N: Net + Drop> Asked<N> {
         let Asked { links, sub } = self;
         let mut links = links;
         links.close(sub);
+        drop(links);
     }
 }

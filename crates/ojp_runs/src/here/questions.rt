@@ -7,8 +7,14 @@ use std::alloc::Global;
 /// Whether the timetable of the row answers each question as it should.
 pub fn answers(alloc: Global, text: &str) -> Option<bool> {
     let table = Timetable::read(alloc, text.as_bytes()).ok()?;
-    let stops = stops_are_told(&table)? && places_are_told(&table)?;
-    Some(stops && runs_are_told(&table)? && journeys_are_told(&table))
+    let told = are_told(&table);
+    drop(table);
+    told
+}
+
+fn are_told(table: &Timetable) -> Option<bool> {
+    let stops = stops_are_told(table)? && places_are_told(table)?;
+    Some(stops && runs_are_told(table)? && journeys_are_told(table))
 }
 
 fn stops_are_told(table: &Timetable) -> Option<bool> {

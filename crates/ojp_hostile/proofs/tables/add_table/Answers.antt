@@ -8,4 +8,4 @@ pub returns : goal.returns
 returns c =
     let code = c.region-code.result in
     let held = ap (list_any (λ (other : Text). same other code)) c.as_slice.ensures.value in
-    tables_more c.args.tables.now.items c.push.new.self.items c.args.table c.args.codes.now.items _ code c.region-code.ensures c.requires (sym held ∙ (sym c.has_code.ensures ∙ c.if-has_code.false)) c.in-Ok.ensures.items c.in-Ok-push.ensures.items
+    tables_more c.args.tables.now.items c.add.new.items.items c.args.table c.args.codes.now.items _ code c.region-code.ensures c.requires (sym held ∙ (sym c.has_code.ensures ∙ c.if-has_code.false)) c.in_ok-add.ensures c.in_ok-add-2.ensures

@@ -1,4 +1,4 @@
-use Rattle.std.proofs.Common.{◌<◌, ◌+◌, arith}
+use Rattle.std.proofs.Common.{arith}
 use Rattle.ojp_rows.proofs.boards.show_wanted.Goals as goal
 
 pub slot-requires-clause-within : goal.slot-requires-clause-within
