@@ -29,7 +29,7 @@ build() {
     return
   fi
   need_toolchain
-  echo "$name: proving and building the program, which takes some minutes the first time" >&2
+  echo "$name: proving and building the program, which takes an hour or more the first time" >&2
   rm -f "$program" "$built"
   (cd "$crate" && rt run -- "${first_run[@]}" <"$first_input" >&2)
   [ -x "$program" ] || { echo "$name: the proof or the build failed" >&2; exit 70; }
