@@ -10,7 +10,7 @@ import re
 import subprocess
 import sys
 
-TOOL = re.compile(rb"(rt|interpreter|compiled|checked|warning|note|help): |(run|call|case)=")
+TOOL = re.compile(rb"(rt|interpreter|compiled|checked|warning|note|help): |races: not looked for|(run|call|case)=")
 OWN = ("program", "stdin", "stdout", "stderr")
 
 
@@ -42,7 +42,7 @@ def main():
         sys.stderr.buffer.write(tried.stderr)
         return 70
     for line in tried.stderr.splitlines(keepends=True):
-        if not TOOL.match(line):
+        if line.strip() and not TOOL.match(line):
             for name, word in alias.items():
                 line = re.sub(rb"(^|: )" + name.encode() + rb"(?=:|\n)", lambda it: it[1] + word.encode(), line)
             sys.stderr.buffer.write(line)

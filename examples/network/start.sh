@@ -4,7 +4,7 @@ network=$(cd "$(dirname "${BASH_SOURCE[0]}")" && pwd)
 # Waits until the server whose standard output goes to the file says that it listens.
 await() {
   for _ in $(seq 400); do
-    grep -q ready "$1" && return
+    grep -qs ready "$1" && return
     sleep 0.02
   done
   echo "no server is ready: $1" >&2
