@@ -1,14 +1,17 @@
-"""Writes the section `calendars` of the rows of crates/ojp_rows, and what is told of them: python3 bench/calendar_rows.py
+#!/usr/bin/env python3
+"""Writes the section `calendars` of the rows of crates/ojp_rows, and what is told of them: bench/calendar_rows.py
 
 The boxes of the sets of days were found by hand. The zone files are made: two years of the changes that Python's
 zoneinfo has, and the last line of the system's file. What is told of a zone is found by trying, with the noons of
 zoneinfo, the texts that docs/DECISIONS.md names.
 """
 
+import argparse
 import datetime
 import itertools
 import pathlib
 import struct
+import sys
 import zoneinfo
 
 FOLDER = pathlib.Path(__file__).parent.parent / "crates" / "ojp_rows"
@@ -184,14 +187,23 @@ def write_section(name, lines):
     (FOLDER / name).write_bytes(before + heading + "".join(line + "\n" for line in lines).encode() + mark + behind)
 
 
-rows, told = [], []
-for first, marks, labels in BOXES:
-    rows.append(f"boxes {first} {marks}")
-    told.append(f"boxes {labels}".rstrip())
-for name, first, last in ZONES:
-    rows.append(f"zone {first} {last} {zone_file(name).hex()}")
-    told.append(f"zone {zone_text(name, number(first), number(last))}")
-rows.append("zone 2026-12-14 2026-12-27 545a6966")
-told.append("zone File")
-write_section("stdin", rows)
-write_section("stdout", told)
+def main():
+    argparse.ArgumentParser(description=__doc__, formatter_class=argparse.RawDescriptionHelpFormatter).parse_args()
+    missing = [name for name, _, _ in ZONES if not any((pathlib.Path(f) / name).exists() for f in zoneinfo.TZPATH)]
+    if missing:
+        sys.exit(f"calendar_rows.py: the system has no zone file of {missing[0]}")
+    rows, told = [], []
+    for first, marks, labels in BOXES:
+        rows.append(f"boxes {first} {marks}")
+        told.append(f"boxes {labels}".rstrip())
+    for name, first, last in ZONES:
+        rows.append(f"zone {first} {last} {zone_file(name).hex()}")
+        told.append(f"zone {zone_text(name, number(first), number(last))}")
+    rows.append("zone 2026-12-14 2026-12-27 545a6966")
+    told.append("zone File")
+    write_section("stdin", rows)
+    write_section("stdout", told)
+
+
+if __name__ == "__main__":
+    main()

@@ -1,11 +1,12 @@
 #!/usr/bin/env python3
 """Writes the cases of documents that `ojp_vectors` ships, with what is expected of each.
 
-    python3 bench/cases.py            prints nothing, and writes crates/ojp_vectors/src/shipped/*.rt
+    bench/cases.py            prints nothing, and writes crates/ojp_vectors/src/shipped/*.rt
 
 The expected outcomes come from the rules of docs/documents.md, restated here as a table of shapes, and never from the
 program: a reader of the repository can check one against the other.
 """
+import argparse
 import datetime
 import os
 import re
@@ -355,7 +356,6 @@ def rust(text):
     return out
 
 
-
 GROUPS = {
     "choices": ("Each kind of document, with each choice that it has.", choices),
     "fields": ("Each kind of field at both ends, and one past.", fields),
@@ -386,6 +386,7 @@ def write(path, text):
 
 
 if __name__ == "__main__":
+    argparse.ArgumentParser(description=__doc__, formatter_class=argparse.RawDescriptionHelpFormatter).parse_args()
     for word, (title, group) in GROUPS.items():
         count, rows = table(title, dict.fromkeys(group()))
         write("crates/ojp_vectors/src/shipped/%s.rt" % word, """//! %s Written by bench/cases.py.

@@ -1,10 +1,11 @@
 #!/usr/bin/env python3
-"""Makes a feed of 1,000,000 stop times and converts it for a window of 7 days: bench/feed.py [--make FOLDER]
+"""Makes a feed of 1,000,000 stop times and converts it for a window of 7 days.
 
 The feed has 50,000 trips of 20 calls at 4,000 stops, in 11 periods of five weeks, each with its own trips: 4,546 trips run in one
 period. With --make the folder is written and nothing else done. Else the program is run three times over a folder of its own, and
 the least time and the most memory are told; it must be built before (./ojp_gtfs).
 """
+import argparse
 import datetime
 import os
 import pathlib
@@ -64,8 +65,13 @@ def run(folder):
 
 
 def main():
-    if sys.argv[1:2] == ["--make"]:
-        return make(pathlib.Path(sys.argv[2]))
+    words = argparse.ArgumentParser(description=__doc__, formatter_class=argparse.RawDescriptionHelpFormatter)
+    words.add_argument("--make", metavar="FOLDER", type=pathlib.Path)
+    given = words.parse_args()
+    if given.make:
+        return make(given.make)
+    if not os.access(PROGRAM, os.X_OK):
+        sys.exit("feed.py: build the program first: ./ojp_gtfs examples/gtfs/feed AA > /dev/null")
     with tempfile.TemporaryDirectory() as name:
         folder = pathlib.Path(name)
         make(folder)

@@ -1,13 +1,14 @@
 #!/usr/bin/env python3
-"""Processor seconds of the gate, by crate and by kind of work: proofs, tests, edits.
+"""Runs the gate from nothing, and prints its processor seconds by crate and by kind of work: proofs, tests, edits.
 
-    bench/gate.py [COMMAND ..]      the command is `rt ci --anew` if none is given; its status is the script's
+    bench/gate.sh [COMMAND ..]      the command is `rt ci --anew` if none is given; its status is the script's
 
 The command's processes are sampled from /proc once a second, so work that takes less is in no row. Linux only.
 """
 import collections
 import os
 import re
+import shutil
 import subprocess
 import sys
 import time
@@ -65,7 +66,14 @@ def sample(root, spent):
 
 
 def main():
+    if sys.argv[1:2] in (["--help"], ["-h"]):
+        print(__doc__.strip())
+        return 0
     command = sys.argv[1:] or ["rt", "ci", "--anew"]
+    if not shutil.which(command[0]):
+        sys.exit("gate.py: the command %s is not there" % command[0])
+    if not os.path.isdir("/proc/self"):
+        sys.exit("gate.py: there is no /proc, which is sampled")
     began, running, spent = time.time(), subprocess.Popen(command), {}
     while running.poll() is None:
         sample(running.pid, spent)

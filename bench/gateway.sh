@@ -1,10 +1,14 @@
 #!/usr/bin/env bash
 # Measures a gateway and its regions over loopback, with curl as its client: bench/gateway.sh [REQUESTS]
 # The regions and requests are those of examples/network. Told are the requests a second as the client has them, one after another,
-# and the middle of their times; then the same with one region behind a forwarder that holds back each of its replies for 50 ms:
+# and the median of their times; then the same with one region behind a forwarder that holds back each of its replies for 50 ms:
 # asks of one round overlap, so a trip takes longer by its rounds through that region and not by its asks.
+# PORT is the gateway's (48300); the regions have the five behind it, the forwarder the 20th.
 . "$(dirname "$0")/program.sh"
+need_words 1 "$@"
+need curl python3
 requests=${1:-300}
+need_number "$requests"
 port=${PORT:-48300}
 ojp=$program
 . "$top/examples/network/start.sh"
@@ -55,7 +59,7 @@ measure() {
   elapsed=$(( ($(date +%s%N) - begin) / 1000 ))
   wait "$gateway"
   : > "$folder/gateway"
-  echo "$what: $(( count * 1000000 / elapsed )) requests a second, $(sort -n "$folder/times" | sed -n "$(( (count + 1) / 2 ))p") s in the middle"
+  echo "$what: $(( count * 1000000 / elapsed )) requests a second, $(sort -n "$folder/times" | sed -n "$(( (count + 1) / 2 ))p") s at the median"
 }
 
 for request in reading-olten chatelet-waldenburg olten-reading; do

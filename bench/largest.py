@@ -1,13 +1,13 @@
 #!/usr/bin/env python3
-"""Writes a timetable of the largest size and two requests to it: largest.py FOLDER
+"""Writes a timetable of the largest size and two requests to it.
 
 `largest.tt` has 5,000 stops, 20,000 journeys of five calls each, 100,000 in all, over one service. The stops of a journey are drawn
 at random, with the same draw at each run; a twentieth of the calls is at the first stop. `events.xml` asks 100 departures there,
 `trip.xml` a trip between two other stops.
 """
+import argparse
 import os
 import random
-import sys
 
 STOPS, JOURNEYS, CALLS = 5000, 20000, 5
 HEAD = ('<?xml version="1.0" encoding="UTF-8"?><OJP xmlns="http://www.siri.org.uk/siri" xmlns:ojp="http://www.vdv.de/ojp"'
@@ -38,7 +38,10 @@ def timetable(draw):
 
 
 def main():
-    folder = sys.argv[1]
+    words = argparse.ArgumentParser(description=__doc__, formatter_class=argparse.RawDescriptionHelpFormatter)
+    words.add_argument("folder", metavar="FOLDER", help="where the three files are written; it is made where it is not there")
+    folder = words.parse_args().folder
+    os.makedirs(folder, exist_ok=True)
     start = "<ojp:DepArrTime>2024-05-06T06:00:00Z</ojp:DepArrTime>"
     events = ("<ojp:OJPStopEventRequest><ojp:Location>" + place(0) + start + "</ojp:Location><ojp:Params>"
               "<ojp:NumberOfResults>100</ojp:NumberOfResults><ojp:StopEventType>departure</ojp:StopEventType></ojp:Params>"

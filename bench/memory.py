@@ -1,11 +1,20 @@
 #!/usr/bin/env python3
-"""Refuses memory to the built program, one allocation after another, and tells what it answers.
+"""Refuses memory to the built program, one allocation after another, and tells what it answers: bench/memory.py
 
 `plan` answers a trip over two regions, and `region` one connection, both with the N-th call for memory refused, for each
 N until no call has that number. Told is how often each answer came: the status, and what was written. An answer is
-`whole` where it is what comes with ample memory, `503` where it is just the fixed response for want of memory.
+`whole` where it is what comes with ample memory, `503` where it is just the fixed response for want of memory. The region
+listens at PORT (47656). A small library that is loaded before the C library refuses the calls: it is compiled with `cc`.
 """
-import collections, os, pathlib, socket, subprocess, sys, tempfile
+import argparse
+import collections
+import os
+import pathlib
+import shutil
+import socket
+import subprocess
+import sys
+import tempfile
 
 TOP = pathlib.Path(__file__).resolve().parent.parent
 PROGRAM = TOP / 'crates/ojp/out/ojp'
@@ -120,8 +129,11 @@ def table(what, once):
 
 
 def main():
+    argparse.ArgumentParser(description=__doc__, formatter_class=argparse.RawDescriptionHelpFormatter).parse_args()
     if not os.access(PROGRAM, os.X_OK):
-        sys.exit('build the program first: ./ojp check < examples/plan/request.xml')
+        sys.exit('memory.py: build the program first: ./ojp check < examples/plan/request.xml')
+    if not shutil.which('cc'):
+        sys.exit('memory.py: cc is not installed')
     request = (TOP / 'examples/plan/request.xml').read_bytes()
     far = request.replace(b'AA:b', b'BB:z').replace(b'08:00:00Z', b'07:55:00Z')
     with tempfile.TemporaryDirectory() as name:
@@ -134,4 +146,5 @@ def main():
         table('one connection of region', lambda number: region_once(folder, request, number))
 
 
-main()
+if __name__ == '__main__':
+    main()

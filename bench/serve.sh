@@ -1,9 +1,14 @@
 #!/usr/bin/env bash
 # Measures a region over loopback, with curl as its client: bench/serve.sh [REQUESTS]
 # Each kind of request is sent so often, one connection after another; told are the requests a second as the client has them,
-# and the processor time of the server for one. The timetable is of the largest size that is allowed.
+# and the processor time of the server for one. The largest timetable has as many stops, journeys and calls as are allowed.
+# PORT is the region's (47655).
 . "$(dirname "$0")/program.sh"
+need_words 1 "$@"
+need curl python3
 requests=${1:-1000}
+need_number "$requests"
+[ "$requests" -gt 1 ] || { echo "serve.sh: at least 2 requests: the first is taken off" >&2; exit 2; }
 port=${PORT:-47655}
 python3 "$top/bench/largest.py" "$folder" || exit 1
 

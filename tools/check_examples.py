@@ -6,6 +6,7 @@ A shown command is a line `$ ./ojp WORD .. [< FILE]` in a fenced block of README
 is one over the same words whose files and input are those that the command names. Prints each difference, and ends with 1 where there
 is one.
 """
+import argparse
 import re
 import shlex
 import sys
@@ -57,6 +58,7 @@ def differs(run, output):
 
 
 def main():
+    argparse.ArgumentParser(description=__doc__, formatter_class=argparse.RawDescriptionHelpFormatter).parse_args()
     runs, wrong = stored_runs(), 0
     for page, command, output in shown_commands():
         words, _, standard_input = command.partition("<")

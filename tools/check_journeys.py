@@ -1,10 +1,11 @@
 #!/usr/bin/env python3
-"""Checks stored trips against timetables with a plain search of its own: check_journeys.py
+"""Checks stored trips against timetables with a plain search of its own.
 
 For each stored run of `plan` over timetable files: the legs of its delivery are a legal journey of the united timetable for its
 request, and none arrives earlier. A plain search corrects one label for each pair of stop and region over all runs of three days
 until nothing changes; it shares no code with the program. Prints each difference, and ends with 1 where there is one.
 """
+import argparse
 import datetime
 import re
 import sys
@@ -152,6 +153,7 @@ def differences(run, files):
 
 
 def main():
+    argparse.ArgumentParser(description=__doc__, formatter_class=argparse.RawDescriptionHelpFormatter).parse_args()
     wrong = 0
     for run in stored_runs():
         files = [it for it in run.words[1:] if it.endswith(".tt")]

@@ -1,9 +1,10 @@
 #!/usr/bin/env python3
-"""Tries the built program over sockets of this machine: check_sockets.py [PROGRAM]
+"""Tries the built program over sockets of this machine.
 
 Regions, a gateway and clients run as processes of their own. A region stands behind a forwarder that can be told to misbehave. Prints
 what was tried with its outcome, and ends with 1 where one was not as it should be. It is no part of the gate.
 """
+import argparse
 import os
 import pathlib
 import re
@@ -16,7 +17,7 @@ import time
 
 from stored import TOP, stored_runs
 
-PROGRAM = sys.argv[1] if len(sys.argv) > 1 else str(TOP / "crates/ojp/out/ojp")
+PROGRAM = str(TOP / "crates/ojp/out/ojp")
 NETWORK = TOP / "examples/network"
 NAMES = ["channel", "jura", "paris", "rhine", "thames"]
 CODES = {name: name.upper() for name in NAMES}
@@ -219,6 +220,12 @@ def descriptors(child):
 
 
 def main():
+    global PROGRAM
+    words = argparse.ArgumentParser(description=__doc__, formatter_class=argparse.RawDescriptionHelpFormatter)
+    words.add_argument("program", metavar="PROGRAM", nargs="?", default=PROGRAM, help="the one of crates/ojp/out where none is given")
+    PROGRAM = words.parse_args().program
+    if not os.access(PROGRAM, os.X_OK):
+        sys.exit(f"check_sockets.py: no program {PROGRAM}: build it first: ./ojp check < examples/plan/request.xml")
     with tempfile.TemporaryDirectory() as folder:
         try:
             one_region(pathlib.Path(folder))

@@ -23,6 +23,9 @@ def is_text(word):
 
 
 def main():
+    if len(sys.argv) < 2 or sys.argv[1] in ("--help", "-h"):
+        print(__doc__.strip())
+        return 0 if sys.argv[1:] else 2
     crate, *words = sys.argv[1:]
     # The program is given no words where one is not UTF-8: it refuses them as it refuses none.
     words = words if all(map(is_text, words)) else []

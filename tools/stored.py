@@ -1,4 +1,4 @@
-"""The runs of `ojp` whose output is stored, and which the gate has proved and run.
+"""A module of the scripts beside it: the runs of `ojp` whose output is stored, and which the gate has proved and run.
 
 One is a program crate with `args`, over the files in its data/: its stdin and its stdout. The others are the lines of the section
 `files` in the stdin of `ojp_runs`, each with the file of its input behind a less-than sign, and the line in the same place of that

@@ -1,8 +1,11 @@
 #!/usr/bin/env bash
 # Tries nginx.conf where nginx, curl and openssl are installed: two gateways over the example's regions behind it, one trip by TLS,
 # and what is refused at the front: examples/deploy/try.sh
+# Uses ports 8443, 8081, 8082 and 48401 to 48405. Where the program is not built yet, it is proved and built first.
 set -u
 here=$(cd "$(dirname "$0")" && pwd)
+. "$here/../../tools/script.sh"
+need_words 0 "$@"
 ojp=$here/../../ojp
 for tool in nginx curl openssl; do
   command -v "$tool" > /dev/null || { echo "not tried: $tool is not installed"; exit 0; }
