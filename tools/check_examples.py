@@ -1,10 +1,14 @@
 #!/usr/bin/env python3
-"""Compares what the documents show of `./ojp` with the stored runs that the gate has proved and run.
+"""Compares the documents and the examples with the stored runs that the gate has proved and run, and looks their links up.
 
 A shown command is a line `$ ./ojp WORD .. [< FILE]` in a fenced block of README.md or docs/; the lines behind it, up to the next
 `$` or the end of the block, are its output, in which ` ...` stands for what was left out and a line break for nothing. Its stored run
-is one over the same words whose files and input are those that the command names. Prints each difference, and ends with 1 where there
-is one.
+is one over the same words whose files and input are those that the command names.
+
+A file of examples/ that `ojp`, `ojp_gtfs` or `ojp_runs` has in its data/ too is the same there, and `examples/gtfs/region.tt` is what
+`ojp_gtfs` writes. A relative link of a page, and a path of this repository that it names in backquotes, leads to what is there.
+
+Prints each difference, and ends with 1 where there is one.
 """
 import argparse
 import re
@@ -20,8 +24,12 @@ def expanded(word):
     return files or [word]
 
 
+def pages():
+    return [*sorted(TOP.glob("*.md")), *sorted(TOP.glob("*/*.md"))]
+
+
 def shown_commands():
-    for page in [TOP / "README.md", *sorted((TOP / "docs").glob("*.md"))]:
+    for page in pages():
         for block in re.findall(r"^```\w*\n(.*?)^```$", page.read_text(), re.M | re.S):
             for part in re.split(r"^\$ ", block, flags=re.M)[1:]:
                 command, _, output = part.partition("\n")
@@ -57,20 +65,46 @@ def differs(run, output):
     return False
 
 
-def main():
-    argparse.ArgumentParser(description=__doc__, formatter_class=argparse.RawDescriptionHelpFormatter).parse_args()
-    runs, wrong = stored_runs(), 0
+def wrong_commands():
+    runs = stored_runs()
     for page, command, output in shown_commands():
         words, _, standard_input = command.partition("<")
         words = [word for given in shlex.split(words)[1:] for word in expanded(given)]
         of = [run for run in runs if is_run_of(run, words, standard_input.strip() or None)]
         if not of:
-            print(f"{page.relative_to(TOP)}: no stored run of: {command}")
+            yield f"{page.relative_to(TOP)}: no stored run of: {command}"
         elif differs(of[0], output):
-            print(f"{page.relative_to(TOP)}: not what {of[0].crate} writes: {command}")
-        else:
-            continue
-        wrong += 1
+            yield f"{page.relative_to(TOP)}: not what {of[0].crate} writes: {command}"
+
+
+def wrong_copies():
+    """The files of the examples that differ from those over which the programs were run."""
+    table = "examples/gtfs/region.tt"
+    if bytes_of(TOP / table) != bytes_of(TOP / "crates/ojp_gtfs/stdout"):
+        yield f"{table}: not what ojp_gtfs writes"
+    for path in sorted(it for it in (TOP / "examples").rglob("*") if it.is_file()):
+        within = path.relative_to(TOP / "examples").parts[1:]
+        for crate in ("ojp", "ojp_gtfs", "ojp_runs"):
+            copy = TOP.joinpath("crates", crate, "data", *within)
+            if copy.is_file() and not same(path, copy):
+                yield f"{path.relative_to(TOP)}: not as {copy.relative_to(TOP)}"
+
+
+def wrong_links():
+    """The links and paths of the pages that lead nowhere."""
+    for page in pages():
+        text = re.sub(r"^```.*?^```$", "", page.read_text(), flags=re.M | re.S)
+        links = [(page.parent, it.partition("#")[0]) for it in re.findall(r"\]\(([^)\s]+)\)", text) if "://" not in it]
+        named = [(TOP, it) for it in re.findall(r"`((?:\.ci|bench|crates|docs|examples|tools)/[\w./@-]*)`", text)]
+        for folder, path in links + named:
+            if not (folder / path).exists():
+                yield f"{page.relative_to(TOP)}: leads nowhere: {path}"
+
+
+def main():
+    argparse.ArgumentParser(description=__doc__, formatter_class=argparse.RawDescriptionHelpFormatter).parse_args()
+    wrong = [*wrong_commands(), *wrong_copies(), *wrong_links()]
+    print("".join(f"{line}\n" for line in wrong), end="")
     return 1 if wrong else 0
 
 
