@@ -1,5 +1,5 @@
 #!/usr/bin/env python3
-"""Checks stored trips against timetables with a plain search of its own.
+"""Checks stored trips against timetables with an independent plain search.
 
 For each stored run of `plan` over timetable files: the legs of its delivery are a legal journey of the united timetable for its
 request, and none arrives earlier. A plain search corrects one label for each pair of stop and region over all runs of three days
