@@ -1,6 +1,6 @@
 #!/usr/bin/env bash
 # Tries nginx.conf where nginx, curl and openssl are installed: two gateways over the example's regions behind it, one trip by TLS,
-# and what is refused at the front: examples/deploy/try.sh
+# and what the proxy refuses: examples/deploy/try.sh
 # Uses ports 8443, 8081, 8082 and 48401 to 48405. Where the program is not built yet, it is proved and built first.
 set -u
 here=$(cd "$(dirname "$0")" && pwd)
