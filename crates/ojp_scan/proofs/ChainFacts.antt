@@ -1,21 +1,21 @@
 -- Regional journeys of a table are the chains of its network.
-use Rattle.std.proofs.Common.{◌≡◌, ◌≢◌, ℕ, ◌+◌, ◌*◌, ◌<◌, ◌≤◌, List, [], ◌∷◌, Some, None, Option, length, sym, ap, subst, refl, inl, inr, arith, ◌∙◌}
+use Rattle.std.proofs.Common.{◌≡◌, ℕ, ◌+◌, ◌≤◌, List, [], ◌∷◌, Some, None, Option, length, sym, ap, subst, refl, arith, ◌∙◌}
 use Rattle.std.specs.Prelude.{unwrap_or}
-use Rattle.std.proofs.lemmas.Option.{none-some, same_Some}
+use Rattle.std.proofs.lemmas.Option.{same_Some}
 use Rattle.ojp_values.specs.Texts.{Text}
 use Rattle.ojp_values.specs.declared.trips.Leg.{Leg}
 use Rattle.ojp_timetable.specs.Tables.{Timetable}
-use Rattle.ojp_timetable.specs.Runs.{IsWell, IsLeg, last_moment, day_long}
+use Rattle.ojp_timetable.specs.Runs.{IsWell, last_moment, day_long}
 use Rattle.ojp_timetable.specs.Journeys as journeys
 use Rattle.ojp_timetable.specs.Journeys.{Standing, alighted, reached, AllFollow, HasTime, Follows}
 use Rattle.ojp_timetable.proofs.RideFacts.{leg_forward, leg_bound, follow_forward}
 use Rattle.ojp_sweep.specs.declared.connections.Connections.{Connections}
 use Rattle.ojp_sweep.specs.declared.connections.Days.{Days}
 use Rattle.ojp_sweep.specs.declared.connections.Asked.{Asked}
-use Rattle.ojp_sweep.specs.Rides.{Ride, IsRide, Transfers, Connects, GoesOn, Leads, Arrives}
+use Rattle.ojp_sweep.specs.Rides.{Ride, Transfers, Connects, GoesOn, Leads, Arrives}
 use Rattle.ojp_scan.specs.Networks.{place_number, IsNetworkFor}
 use Rattle.ojp_scan.specs.Days.{CoverWindow, AreDaysFrom}
-use Rattle.ojp_scan.specs.Walks.{Onward, AreEnds, leg_between}
+use Rattle.ojp_scan.specs.Walks.{Onward, leg_between}
 use Rattle.ojp_scan.proofs.PlaceFacts.{number-within, one-stop}
 use Rattle.ojp_scan.proofs.RideFacts.{leg-between-is, ride-ends, ride-runs, ends-match, ride-of-leg, transfer-is, change-kept}
 

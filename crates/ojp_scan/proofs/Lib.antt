@@ -1,7 +1,10 @@
 pub mod ResultFacts
 pub mod TableFacts
 pub mod PlaceFacts
+pub mod ListFacts
 pub mod RowFacts
+pub mod OrderFacts
+pub mod RankFacts
 pub mod HopFacts
 pub mod DayFacts
 pub mod RideFacts

@@ -1,5 +1,5 @@
 -- The rows of a table, as they are made and as a network takes them.
-use Rattle.std.proofs.Common.{◌≡◌, ℕ, ◌+◌, ◌<◌, ◌≤◌, ◌⊎◌, List, [], ◌∷◌, ◌++◌, Some, length, map, sym, ap, subst, refl, inl, inr, arith, slice_get, ◌∙◌, zero, suc}
+use Rattle.std.proofs.Common.{◌≡◌, ℕ, ◌+◌, ◌<◌, ◌≤◌, ◌⊎◌, List, [], ◌∷◌, ◌++◌, Some, length, map, sym, ap, subst, refl, inl, inr, arith, slice_get, ◌∙◌}
 use Rattle.std.proofs.lemmas.Bool.{cases_lt}
 use Rattle.std.specs.Prelude.{option_map}
 use Rattle.std.proofs.lemmas.List.{length_push, length-map}
@@ -17,29 +17,12 @@ use Rattle.ojp_scan.specs.declared.hops.Hop.{Hop}
 use Rattle.ojp_scan.specs.Hops.{IsHop, StandsBefore}
 use Rattle.ojp_scan.specs.Networks.{IsConnection, IsKeptAt, AreRowsUpTo, AreRowsOf}
 use Rattle.ojp_values.proofs.EachFacts.{among_at, read_at, read_once}
-use Rattle.ojp_timetable.proofs.ReadFacts.{calls_are}
+use Rattle.ojp_timetable.proofs.ReadFacts.{calls_among, calls_are}
 use Rattle.ojp_timetable.proofs.RideFacts.{ride_forward}
 use Rattle.ojp_timetable.proofs.StopFacts.{at-read}
-use Rattle.ojp_scan.proofs.TableFacts.{IsHopOf, hop-of-calls, departs-forward, arrives-offset}
+use Rattle.ojp_scan.proofs.ListFacts.{slice_get-before, slice_get-next, slice_get-push-cases}
+use Rattle.ojp_scan.proofs.TableFacts.{IsHopOf, hop-of-calls, two-calls, departs-forward, arrives-offset}
 use Rattle.ojp_scan.proofs.PlaceFacts.{number-within}
-
--- what is read of a list stays where one more element is pushed
-slice_get-push : {X : Type 0} (xs : List X) (y : X) (k : ℕ) (x : X) → slice_get xs k ≡ Some x → slice_get (xs ++ y ∷ []) k ≡ Some x
-slice_get-push [] y k x e = absurd (none-some x e)
-slice_get-push (z ∷ zs) y zero x e = e
-slice_get-push (z ∷ zs) y (suc k) x e = slice_get-push zs y k x e
-
-slice_get-pushed : {X : Type 0} (xs : List X) (y : X) → slice_get (xs ++ y ∷ []) (length xs) ≡ Some y
-slice_get-pushed [] y = refl
-slice_get-pushed (x ∷ xs) y = slice_get-pushed xs y
-
--- what is read of a list after a push was there, or is what was pushed
-pub slice_get-push-cases : {X : Type 0} (xs : List X) (y : X) (k : ℕ) (x : X) → slice_get (xs ++ y ∷ []) k ≡ Some x → (slice_get xs k ≡ Some x) ⊎ ((k ≡ length xs) × (y ≡ x))
-slice_get-push-cases [] y zero x e = inr (refl, same_Some y x e)
-slice_get-push-cases [] y (suc k) x e = absurd (none-some x e)
-slice_get-push-cases (z ∷ zs) y zero x e = inl e
-slice_get-push-cases (z ∷ zs) y (suc k) x e =
-    elim (slice_get-push-cases zs y k x e) [ inl h ↦ inl h | inr h ↦ inr (ap suc h.0, h.1) ]
 
 pub rows-none : (table : Timetable) → AreRowsUpTo [] table 0 0
 rows-none table =
@@ -64,9 +47,9 @@ module _ (rows : List Connection) (table : Timetable) (j p : ℕ) (are : AreRows
             elim (cases-before k q before) [
               | inl old ↦
                   let r = are.complete k q of at h old in
-                  record { row = r.row; connection = r.connection; at = slice_get-push rows c r.row r.connection r.at; journey_is = r.journey_is; position_is = r.position_is }
+                  record { row = r.row; connection = r.connection; at = slice_get-before rows (c ∷ []) r.row r.connection r.at; journey_is = r.journey_is; position_is = r.position_is }
               | inr new ↦
-                  record { row = length rows; connection = c; at = slice_get-pushed rows c; journey_is = journey ∙ sym new.0; position_is = position ∙ sym new.1 }
+                  record { row = length rows; connection = c; at = slice_get-next rows c []; journey_is = journey ∙ sym new.0; position_is = position ∙ sym new.1 }
             ];
         rising = λ i k x y lt a b.
             elim (slice_get-push-cases rows c i x a) [
@@ -154,6 +137,15 @@ module _ (table : Timetable) (j : ℕ) (within : j < length table.journeys) (kep
 
   pub count-kept : (journey : Journey) → slice_get table.journeys j ≡ Some journey → length kept ≡ length journey.calls
   count-kept journey at = sym (length-map kept (call_kept table.places)) ∙ ap length (calls-kept journey at)
+
+  -- they are two at least, and few
+  pub kept-few : IsWell table → (2 ≤ length kept) × (length kept ≤ 100000)
+  kept-few well =
+      let r = read_at table.journeys j within in
+      let count = count-kept r.0 r.1 in
+      let few = calls_among table.journeys j r.0 r.1 in
+      let two = two-calls r.0.calls (well.shape r.0 (among_at table.journeys j r.0 r.1)) in
+      (omega (arith, count, two), omega (arith, count, few, well.few.calls_few))
 
   pub kept-at : (position : ℕ) (call : KeptCall) → slice_get kept position ≡ Some call → IsKeptAt table j position call
   kept-at position call read =

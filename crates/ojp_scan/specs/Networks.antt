@@ -1,5 +1,5 @@
 -- The network of a timetable: its hops with places in the stead of stops.
-use Rattle.std.specs.Prelude.{◌≡◌, ℕ, ◌+◌, ◌*◌, ◌<◌, ◌≤◌, List, Option, Some, length, slice_get, slice_index, position, bytes_eq, MatchOption}
+use Rattle.std.specs.Prelude.{◌≡◌, ℕ, ◌+◌, ◌*◌, ◌<◌, ◌≤◌, List, ◌++◌, map, Option, Some, length, slice_get, slice_index, position, bytes_eq, MatchOption}
 use Rattle.indexmap.specs.IndexMap.{IndexMap, get}
 use Rattle.ojp_values.specs.Texts.{Text}
 use Rattle.ojp_timetable.specs.Tables.{Timetable, Journey, Place}
@@ -7,6 +7,9 @@ use Rattle.ojp_timetable.specs.declared.calls.Call.{Call}
 use Rattle.ojp_timetable.specs.declared.kept.KeptCall.{KeptCall}
 use Rattle.ojp_sweep.specs.declared.connections.Connection.{Connection}
 use Rattle.ojp_sweep.specs.declared.connections.Connections.{Connections}
+use Rattle.ojp_sweep.specs.declared.ranks.Counts.{Counts}
+use Rattle.ojp_sweep.specs.declared.ranks.Ranks.{Ranks}
+use Rattle.ojp_sweep.specs.Ranks.{AreCounted, ArePut}
 use Rattle.ojp_sweep.specs.Rows.{IsNetworkOf}
 use Rattle.ojp_scan.specs.Hops.{StandsBefore}
 
@@ -57,6 +60,32 @@ pub record AreRowsUpTo (rows : List Connection) (table : Timetable) (journeys po
 -- the rows are the hops of all journeys
 abbrev pub AreRowsOf : List Connection → Timetable → Type 0
 AreRowsOf rows table = AreRowsUpTo rows table (length table.journeys) 0
+
+-- the departures of the rows
+abbrev pub departures : List Connection → List ℕ
+departures rows = map (λ (connection : Connection). connection.departs) rows
+
+-- the hops of the first journeys and the first of the next have been counted
+pub record AreCountedUpTo (counts : Counts) (table : Timetable) (journeys positions : ℕ) : Type 0 where
+  pub rows : List Connection
+  pub rows_are : AreRowsUpTo rows table journeys positions
+  pub counted : AreCounted counts (departures rows)
+
+-- the hops of all journeys have been counted
+abbrev pub AreCountedOf : Counts → Timetable → Type 0
+AreCountedOf counts table = AreCountedUpTo counts table (length table.journeys) 0
+
+-- the hops of all journeys have been counted, and those of the first journeys and the first of the next have been put
+pub record ArePutUpTo (ranks : Ranks) (table : Timetable) (journeys positions : ℕ) : Type 0 where
+  pub rows : List Connection
+  pub more : List Connection
+  pub rows_are : AreRowsUpTo rows table journeys positions
+  pub all_are : AreRowsOf (rows ++ more) table
+  pub put : ArePut ranks (departures (rows ++ more)) rows
+
+-- the hops of all journeys have been put
+abbrev pub ArePutOf : Ranks → Timetable → Type 0
+ArePutOf ranks table = ArePutUpTo ranks table (length table.journeys) 0
 
 -- each of the first journeys has its service
 pub record HaveServices (services : List ℕ) (table : Timetable) (count : ℕ) : Type 0 where

@@ -5,7 +5,7 @@ ghost use Rattle.ojp_timetable.specs.Tables.{Journey, Place};
 ghost use Rattle.ojp_timetable.specs.Runs.{IsWell};
 ghost use Rattle.ojp_scan.specs.Networks.{HaveServices, HaveChanges, HaveNumbers, IsNetworkFor};
 
-use crate::rows::rows_of;
+use crate::rows::ranks_of;
 use indexmap::IndexMap;
 use ojp_sweep::Connections;
 use ojp_timetable::Timetable;
@@ -17,10 +17,10 @@ pub fn network_of(alloc: Global, table: &Timetable) -> Result<Connections, NoMem
     requires { IsWell table.now }
     ensures { IfOk result (λ net. IsNetworkFor net table.now) }
 {
-    let rows = rows_of(alloc, table)?;
+    let ranks = ranks_of(alloc, table)?;
     let services = services_of(alloc, table)?;
     let changes = changes_of(alloc, table)?;
-    match Connections::new(alloc, rows.as_slice(), services, changes) {
+    match Connections::new(alloc, ranks, services, changes) {
         Ok(net) => Ok(net),
         Err(_) => Err(NoMemory),
     }

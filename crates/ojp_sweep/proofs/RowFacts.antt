@@ -7,11 +7,8 @@ use Rattle.ojp_sweep.specs.declared.connections.Connection.{Connection}
 use Rattle.ojp_sweep.specs.declared.connections.Connections.{Connections}
 use Rattle.ojp_sweep.specs.declared.connections.Walk.{Walk}
 use Rattle.ojp_sweep.specs.Rides.{IsAt, IsWell}
-use Rattle.ojp_sweep.specs.Ranks.{AreSorted, AreOffsets}
+use Rattle.ojp_sweep.specs.Ranks.{AreSorted}
 use Rattle.ojp_sweep.specs.Rows.{AreRows, AreChanges, IsNetworkOf}
-
-pub rows-offsets : (rows : List Connection) (places journeys : ℕ) → AreRows rows places journeys → AreOffsets rows
-rows-offsets rows places journeys are i hop at = let w = are.hops i hop at in let f = w.forward in let o = w.offset in omega arith
 
 module _ (rows : List Connection) (places journeys : ℕ) (are : AreRows rows places journeys) (net : Connections) (sorted : AreSorted rows net.sorted.items)
     (services changes : List ℕ) (services-are : net.services.items ≡ services) (changes-are : net.changes.items ≡ changes) (walks-are : net.walks.items ≡ []) (firsts-count : length net.firsts.items ≡ length changes + 1)

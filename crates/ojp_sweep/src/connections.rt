@@ -1,9 +1,10 @@
 //! The connections of a network: the hops of its journeys, in the order of their departures.
 
-ghost use Rattle.std.specs.Prelude.{◌≡◌, ℕ, ◌+◌, ◌<◌, ◌^◌, length, slice_index, IfOk};
+ghost use Rattle.std.specs.Prelude.{◌≡◌, ℕ, ◌+◌, ◌<◌, ◌^◌, List, length, slice_index, IfOk};
+ghost use Rattle.ojp_sweep.specs.Ranks.{AreAllPut};
 ghost use Rattle.ojp_sweep.specs.Rows.{AreRows, AreChanges, IsNetworkOf};
 
-use crate::rows::by_departure;
+use crate::ranks::Ranks;
 use std::alloc::{AllocError, Global};
 
 /// A hop of a journey from a call to the next: its ends are places, its times offsets in a day and a half.
@@ -54,22 +55,20 @@ pub struct Asked {
 }
 
 impl Connections {
-    /// The network of the rows, without walks.
+    /// The network of the rows that have been put, without walks.
     pub fn new(
         alloc: Global,
-        rows: &[Connection],
+        ranks: Ranks,
         services: Vec<u32>,
         changes: Vec<u32>,
     ) -> Result<Connections, AllocError>
-        requires rows { AreRows rows.now (length changes.items) (length services.items) }
         requires changes { AreChanges changes.items }
         requires places { length changes.items < 2 ^ 32 }
-        ensures { IfOk result (λ net. IsNetworkOf net rows.now services.items changes.items) }
+        ensures { IfOk result (λ net. (rows : List Connection) → AreAllPut ranks rows → AreRows rows (length changes.items) (length services.items) → IsNetworkOf net rows services.items changes.items) }
     {
-        let sorted = by_departure(alloc, rows)?;
         let firsts = zeros(alloc, changes.len() + 1)?;
         Ok(Connections {
-            sorted,
+            sorted: ranks.sorted(),
             services,
             changes,
             walks: Vec::new(alloc),

@@ -9,10 +9,10 @@ mod connections;
 mod labels;
 mod progress;
 mod ranks;
-mod rows;
 mod searches;
 mod sweeps;
 
 pub use connections::{Asked, Connection, Connections, Days, Walk};
 pub use labels::Hop;
+pub use ranks::{Counts, Ranks};
 pub use searches::Sweep;

@@ -1,4 +1,4 @@
-use Rattle.std.proofs.Common.{◌≡◌, ◌∙◌, ℕ, ◌≤◌, sym, ap, subst, Option, Some, Result, Ok, Err, IsOk, IfOk, true≢false}
+use Rattle.std.proofs.Common.{◌≡◌, ◌∙◌, ℕ, sym, ap, subst, Option, Some, Result, Ok, Err, IsOk, IfOk, true≢false}
 use Rattle.std.specs.Prelude.{MatchOption}
 use Rattle.std.specs.Result.{result_ok}
 use Rattle.ojp_values.specs.Lists.{Earliest}
