@@ -45,6 +45,7 @@ unserved_multi book v ask told delivery none is =
       right = λ tables own. is;
       names_failed = λ code e. let no : deliveries.Multi (multi_replies.Fault faults.NotServed) ≡ deliveries.Trip (trip_replies.Fault (faults.RegionFailed code)) = sym is ∙ e in absurd (cc);
       not_served = is;
+      by_book = tt;
       ends = none;
       causes = subst (Each (HasCause v v)) (sym none) tt;
       given = tt;
@@ -57,6 +58,7 @@ unserved_events book v ask told delivery none is =
       right = λ tables own. is;
       names_failed = λ code e. let no : deliveries.Events (events_replies.Fault faults.NotServed) ≡ deliveries.Trip (trip_replies.Fault (faults.RegionFailed code)) = sym is ∙ e in absurd (cc);
       not_served = is;
+      by_book = tt;
       ends = none;
       causes = subst (Each (HasCause v v)) (sym none) tt;
       given = tt;
@@ -81,6 +83,7 @@ points_answered book v ask told delivery none by =
       right = λ tables own. points_by_tables tables book ask.place delivery own.1 by;
       names_failed = λ code e. absurd (points_no_trip ask.place by.0 (trip_replies.Fault (faults.RegionFailed code)) (sym by.2 ∙ e));
       not_served = tt;
+      by_book = by;
       ends = none;
       causes = subst (Each (HasCause v v)) (sym none) tt;
       given = tt;
@@ -122,6 +125,7 @@ searched_by book ask old new told reply differ ended grown =
           let by : Ended book ask told (trip_replies.Fault (faults.RegionFailed code)) = subst (Ended book ask told) is ended in
           stands_rose book ask old new told code causes (named_stands book ask told code by.ends_by);
       not_served = tt;
+      by_book = λ alike. absurd (differ alike);
       ends = (λ other. (reply, refl, ended), λ alike. absurd (differ alike));
       causes = causes;
       given = λ tables tells. grown.given tables tells tt;

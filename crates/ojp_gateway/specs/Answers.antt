@@ -69,6 +69,13 @@ delivery_of_points (Some place) found = entries_reply place found
 abbrev pub PointsByBook : Book → Option Text → Delivery → Type 0
 PointsByBook book place delivery = (found : List Point) × ArePointsAt book place found × (delivery ≡ delivery_of_points place found)
 
+-- what the book alone answers: that both ends of a trip are the same stop, and the points
+abbrev pub IsByBook : Book → Ask → Delivery → Type 0
+IsByBook book (asks.Trip ask) delivery = ask.origin ≡ ask.target → delivery ≡ deliveries.Trip (trip_replies.Fault (faults.SameStop ask.origin))
+IsByBook book (asks.Multi ask) delivery = Unit {0}
+IsByBook book (asks.Events ask) delivery = Unit {0}
+IsByBook book (asks.Points ask) delivery = PointsByBook book ask.place delivery
+
 -- services that the gateway does not have
 abbrev pub IsNotServed : Ask → Delivery → Type 0
 IsNotServed (asks.Trip ask) delivery = Unit {0}
@@ -97,6 +104,7 @@ pub record Answers (book : Book) (old new : View) (told : List Entry) (ask : Ask
   pub right : IsRightWhereTold book old new ask delivery
   pub names_failed : NamesFailed old new delivery
   pub not_served : IsNotServed ask delivery
+  pub by_book : IsByBook book ask delivery
   pub ends : EndsSearch book ask delivery told
   pub causes : Each (HasCause old new) told
   pub given : ToldGiven book old ask told
