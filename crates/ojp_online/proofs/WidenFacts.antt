@@ -1,5 +1,6 @@
 -- What answers between two moments answers between an earlier and a later one; and what serves with one relation serves with a wider one.
 use Rattle.std.proofs.Common.{◌≡◌, ℕ, ◌<◌, ◌≤◌, List, length, Option, Some, None, IfSome, sym, ◌∙◌, ap, subst, inl, inr, arith}
+use Rattle.ojp_values.specs.Lists.{Each}
 use Rattle.ojp_values.specs.Texts.{Text}
 use Rattle.ojp_values.specs.declared.asks.Ask.{Ask}
 use Rattle.ojp_values.specs.declared.asks.Ask.TheVariants as asks
@@ -11,11 +12,13 @@ use Rattle.ojp_http.specs.Connections.{Serves, Wire}
 use Rattle.ojp_http.specs.declared.served.Served.{Served}
 use Rattle.ojp_bodies.proofs.ServedFacts.{serves_on}
 use Rattle.ojp_exchange.specs.Book.{Book}
-use Rattle.ojp_links.specs.Seen.{View, Fixed, code_in, codes_of}
+use Rattle.ojp_links.specs.Seen.{View, Fixed, TellsTables, code_in, codes_of}
 use Rattle.ojp_links.specs.Calls.{Keeps}
 use Rattle.ojp_records.specs.declared.queries.Entry.{Entry as Told}
-use Rattle.ojp_turns.specs.Faults.{FaultRose}
-use Rattle.ojp_gateway.specs.Answers.{Answers, IsRight, TellsBook}
+use Rattle.ojp_records.specs.Records.{region_of}
+use Rattle.ojp_turns.specs.Faults.{FaultRose, HasCause}
+use Rattle.ojp_turns.proofs.AskFacts.{each_turned}
+use Rattle.ojp_gateway.specs.Answers.{Answers, IsRight, TellsBook, ToldGiven}
 use Rattle.ojp_steps.specs.Serving.{AreServed, HasServed, IsServed}
 use Rattle.ojp_online.specs.Added.{as_added}
 use Rattle.ojp_online.specs.Gateways.{GatewayGives}
@@ -37,9 +40,11 @@ module _ (a b c d : View) (w : Widens a b c d) where
     omega (arith, rose, w.before region, w.after region),
   )
 
+  tables_narrower : (tables : List Timetable) → TellsTables c tables → TellsTables a tables
+  tables_narrower tables tells = record { servers = ap (λ (f : Fixed). f.servers) (sym w.fixed) ∙ tells.servers; own = tells.own ∙ ap codes_of w.fixed }
+
   tells_narrower : (book : Book) (tables : List Timetable) → TellsBook c book tables → TellsBook a book tables
-  tells_narrower book tables (tells, theirs) =
-      (record { servers = ap (λ (f : Fixed). f.servers) (sym w.fixed) ∙ tells.servers; own = tells.own ∙ ap codes_of w.fixed }, theirs)
+  tells_narrower book tables (tells, theirs) = (tables_narrower tables tells, theirs)
 
   right_wider : (tables : List Timetable) (ask : Ask) (delivery : Delivery) → IsRight a b tables ask delivery → IsRight c d tables ask delivery
   right_wider tables (asks.Trip ask) delivery (inl r) = inl r
@@ -49,25 +54,36 @@ module _ (a b c d : View) (w : Widens a b c d) where
   right_wider tables (asks.Events ask) delivery r = r
   right_wider tables (asks.Points ask) delivery r = r
 
+  causes_wider : (told : List Told) → Each (HasCause a b) told → Each (HasCause c d) told
+  causes_wider told causes = each_turned (HasCause a b) (HasCause c d) told (λ entry has failed. rose_wider (region_of entry.query) (has failed)) causes
+
+  given_narrower : (book : Book) (ask : Ask) (told : List Told) → ToldGiven book a ask told → ToldGiven book c ask told
+  given_narrower book (asks.Trip ask) told given = λ tables tells. given tables (tables_narrower tables tells)
+  given_narrower book (asks.Multi ask) told given = given
+  given_narrower book (asks.Events ask) told given = given
+  given_narrower book (asks.Points ask) told given = given
+
+  answers_wider : (book : Book) (told : List Told) (ask : Ask) (delivery : Delivery) → Answers book a b told ask delivery → Answers book c d told ask delivery
+  answers_wider book told ask delivery answers = record {
+    kind = answers.kind;
+    right = λ tables tells. right_wider tables ask delivery (answers.right tables (tells_narrower book tables tells));
+    names_failed = λ code is. rose_wider code (answers.names_failed code is);
+    not_served = answers.not_served;
+    by_book = answers.by_book;
+    ends = answers.ends;
+    causes = causes_wider told answers.causes;
+    given = given_narrower book ask told answers.given;
+  }
+
 -- an answer of a later call is one since the regions were added
 pub gives_of : (book : Book) (old new : View) (told : List Told) (ask : Ask) (delivery : Delivery) → Keeps old new → Answers book old new told ask delivery → GatewayGives book new ask delivery
-gives_of book old new told ask delivery keeps answers = record {
-  kind = answers.kind;
-  right = λ tables tells. right_wider old new (as_added new) new w tables ask delivery (answers.right tables (tells_narrower old new (as_added new) new w book tables tells));
-  names_failed = λ code is. rose_wider old new (as_added new) new w code (answers.names_failed code is);
-  not_served = answers.not_served;
-}
+gives_of book old new told ask delivery keeps answers = (told, answers_wider old new (as_added new) new w book told ask delivery answers)
   where
     w : Widens old new (as_added new) new
     w = record { fixed = keeps.fixed; before = λ region. omega arith; after = λ region. omega arith }
 
 pub gives_on : (book : Book) (mid new : View) (ask : Ask) (delivery : Delivery) → Keeps mid new → GatewayGives book mid ask delivery → GatewayGives book new ask delivery
-gives_on book mid new ask delivery keeps gives = record {
-  kind = gives.kind;
-  right = λ tables tells. right_wider (as_added mid) mid (as_added new) new w tables ask delivery (gives.right tables (tells_narrower (as_added mid) mid (as_added new) new w book tables tells));
-  names_failed = λ code is. rose_wider (as_added mid) mid (as_added new) new w code (gives.names_failed code is);
-  not_served = gives.not_served;
-}
+gives_on book mid new ask delivery keeps (told, answers) = (told, answers_wider (as_added mid) mid (as_added new) new w book told ask delivery answers)
   where
     w : Widens (as_added mid) mid (as_added new) new
     w = record { fixed = keeps.fixed; before = λ region. omega arith; after = keeps.faults }

@@ -12,12 +12,12 @@ use Rattle.ojp_exchange.specs.Book.{Book, points_of}
 use Rattle.ojp_exchange.specs.Joins.{IsJoined}
 use Rattle.ojp_exchange.specs.declared.refusals.BookRefused.TheVariants as refusals
 use Rattle.ojp_grammar.specs.Answering.{AnswersBody}
-use Rattle.ojp_links.specs.Replies.{IsOfKind}
 use Rattle.ojp_links.specs.Seen.{View, NoneLive, TellsTables}
 use Rattle.ojp_links.specs.Calls.{Keeps}
+use Rattle.ojp_records.specs.declared.queries.Entry.{Entry}
 use Rattle.ojp_regions.specs.RegionsText.{IsListRefused as IsTextRefused}
 use Rattle.ojp_regions.specs.declared.line.RegionLine.{RegionLine}
-use Rattle.ojp_gateway.specs.Answers.{IsNotServed, IsRightWhereTold, NamesFailed, NoneRejected}
+use Rattle.ojp_gateway.specs.Answers.{Answers, NoneRejected}
 use Rattle.ojp_gateway.specs.Learning.{FailsFirst, IsLearned, IsRefusedHeard}
 use Rattle.ojp_steps.specs.Lent.{Lent, before, after, IsUnused, Gains, GainsInPart}
 use Rattle.ojp_steps.specs.Files.{StandsAsBefore, FailsToOpen, IsTooLong, IsReadable}
@@ -27,14 +27,12 @@ use Rattle.ojp_steps.specs.declared.failures.Failure.TheVariants.{Unread, TooLon
 use Rattle.ojp_online.specs.Added.{as_added, HasFailedNone, HasStations}
 use Rattle.ojp_online.specs.RegionFiles.{IsFileOf, IsRefusedFile, IsGood}
 
--- what the gateway gives to an ask since its regions were added: a delivery of its kind; where timetables are told and the book is theirs, the
--- answer by them, but that a search may end otherwise where a region's count rose; it names no region but one whose count rose, and says what it
--- does not serve
-pub record GatewayGives (book : Book) (links : View) (ask : Ask) (delivery : Delivery) : Type 0 where
-  pub kind : IsOfKind ask delivery
-  pub right : IsRightWhereTold book (as_added links) links ask delivery
-  pub names_failed : NamesFailed (as_added links) links delivery
-  pub not_served : IsNotServed ask delivery
+-- what the gateway gives to an ask since its regions were added, for some record of replies and failures: a delivery of its kind, which is
+-- that of the ended search that has this record; each failure of the record is of a region whose count rose, and so is the region that the
+-- delivery names; where timetables are told and the book is theirs, it is the answer by them, but that a search may end otherwise where a
+-- region's count rose
+abbrev pub GatewayGives : Book → View → Ask → Delivery → Type 0
+GatewayGives book links ask delivery = (told : List Entry) × Answers book (as_added links) links told ask delivery
 
 -- the links pass on: their regions stay, no ask is live, and where timetables are told and the book is theirs, nothing was rejected
 pub record PassesOn (book : Book) (old new : View) : Type 0 where
