@@ -1,17 +1,19 @@
 -- What refusals of rows and of files say.
-use Rattle.std.proofs.Common.{◌≡◌, ◌<◌, ◌⊎◌, ℕ, zero, suc, Option, Some, None, Result, Ok, Err, List, ◌∷◌, length, true, false, arith, refl, subst, sym, ap, inl, inr}
-use Rattle.std.specs.Prelude.{IfSome, IsSomeAnd, IsTrue, nat_lt}
+use Rattle.std.proofs.Common.{◌≡◌, ◌≢◌, ◌<◌, ◌⊎◌, Bor, ℕ, zero, suc, Option, Some, None, Result, Ok, Err, List, ◌∷◌, length, true, arith, refl, subst, sym, ap, inl, inr}
+use Rattle.std.specs.Prelude.{IfSome, IsSomeAnd, IsTrue, nat_lt, option_map}
 use Rattle.std.specs.Result.{IfErr, IsErrAnd}
 use Rattle.std.proofs.lemmas.Bool.{false≢true}
 use Rattle.csv.specs.Reading.{strip_bom}
 use Rattle.ojp_values.specs.Texts.{Text}
-use Rattle.ojp_feed_lines.specs.Causes.{IsCause, IsFor, IsOfText}
+use Rattle.ojp_feed_lines.specs.Causes.{IsCause, IsFor, IsOfText, needs}
 use Rattle.ojp_feed_lines.specs.Columns.{column_name}
 use Rattle.ojp_feed_lines.specs.Folders.{Files, IsOpened, IsTooLong, Lacks}
-use Rattle.ojp_feed_lines.specs.Refusals.{Explains, ExplainsAt, IsMissed, IsNeeded, IsRowRefusal, IsTableRefusal, is_of_row, is_unread}
-use Rattle.ojp_feed_lines.specs.Places.{HoldsZone}
+use Rattle.ojp_feed_lines.specs.Refusals.{Explains, ExplainsAll, ExplainsAt, IsMissed, IsNeeded, IsRowRefusal, IsTableRefusal, is_of_row, is_unread}
+use Rattle.ojp_feed_lines.specs.OperatorCauses.{IsOperatorRefusal}
+use Rattle.ojp_feed_lines.specs.Places.{AreStopIdsOf, HoldsZone}
 use Rattle.ojp_feed_lines.specs.Rows.{IsPlace, OfFile, Record}
 use Rattle.ojp_feed_lines.specs.Tables.{HasEnded, HasTaken}
+use Rattle.ojp_feed_lines.specs.declared.columns.Column.{Column}
 use Rattle.ojp_feed_lines.specs.declared.columns.Column.TheVariants as columns
 use Rattle.ojp_feed_lines.proofs.StandFacts.{of_file}
 use Rattle.ojp_feed_lines.specs.declared.folder.TheConstants.{MOST_BYTES}
@@ -45,22 +47,23 @@ of_opened (Some told) file remaining P opened h = by (told file) opened
     by (Some bytes) o = rw o at h
 
 -- the text of the opened file is the cause
-by_text : (contents : Option Files) (file : FeedFile) (remaining : Option Text) (reason : RowReason) → IsTrue (is_of_row reason)
+by_text : (contents : Option Files) (file : FeedFile) (remaining : Option Text) (reason : RowReason) → file ≢ files.Operator → IsTrue (is_of_row reason)
     → IsOpened contents file remaining → IfSome remaining (λ bytes. IsCause file reason (strip_bom bytes)) → ExplainsAt contents file reason
-by_text contents file remaining reasons.MissingFile is opened h = absurd (false≢true is)
-by_text contents file remaining (reasons.MissingColumn column) is opened h = λ other. of_opened contents file remaining _ opened h
-by_text contents file remaining reasons.Width is opened h = λ other. of_opened contents file remaining _ opened h
-by_text contents file remaining reasons.NotText is opened h = λ other. of_opened contents file remaining _ opened h
-by_text contents file remaining (reasons.Value column) is opened h = λ other. of_opened contents file remaining _ opened h
-by_text contents file remaining reasons.TwoZones is opened h = λ other. of_opened contents file remaining _ opened h
-by_text contents file remaining (reasons.Doubled column) is opened h = λ other. of_opened contents file remaining _ opened h
-by_text contents file remaining (reasons.Unknown column) is opened h = λ other. of_opened contents file remaining _ opened h
-by_text contents file remaining reasons.LineForm is opened h = λ other. of_opened contents file remaining _ opened h
-by_text contents file remaining reasons.Limit is opened h =
-    λ other.
-    of_file contents file (λ bytes. IsCause file reasons.Limit (strip_bom bytes))
-    (λ bytes. MOST_BYTES < length bytes ⊎ IsCause file reasons.Limit (strip_bom bytes)) (λ bytes many. inr many)
-    (of_opened contents file remaining (λ bytes. IsCause file reasons.Limit (strip_bom bytes)) opened h)
+by_text contents file remaining reasons.MissingFile other is opened h = absurd (false≢true is)
+by_text contents file remaining (reasons.MissingColumn column) other is opened h = (other, of_opened contents file remaining _ opened h)
+by_text contents file remaining reasons.Width other is opened h = (other, of_opened contents file remaining _ opened h)
+by_text contents file remaining reasons.NotText other is opened h = (other, of_opened contents file remaining _ opened h)
+by_text contents file remaining (reasons.Value column) other is opened h = (other, of_opened contents file remaining _ opened h)
+by_text contents file remaining reasons.TwoZones other is opened h = (other, of_opened contents file remaining _ opened h)
+by_text contents file remaining (reasons.Doubled column) other is opened h = (other, of_opened contents file remaining _ opened h)
+by_text contents file remaining (reasons.Unknown column) other is opened h = (other, of_opened contents file remaining _ opened h)
+by_text contents file remaining reasons.LineForm other is opened h = (other, of_opened contents file remaining _ opened h)
+by_text contents file remaining reasons.Limit other is opened h = (
+  other,
+  of_file contents file (λ bytes. IsCause file reasons.Limit (strip_bom bytes))
+      (λ bytes. MOST_BYTES < length bytes ⊎ IsCause file reasons.Limit (strip_bom bytes)) (λ bytes many. inr many)
+      (of_opened contents file remaining (λ bytes. IsCause file reasons.Limit (strip_bom bytes)) opened h),
+)
 
 -- what each text that may be told says
 told_text : (remaining : Option Text) (P Q : Text → Type 0) → ((text : Text) → P text → Q text)
@@ -70,43 +73,54 @@ told_text (Some bytes) P Q f h = f (strip_bom bytes) h
 
 -- a refusal of an opened file
 pub opened_explained : (contents : Option Files) (file : FeedFile) (remaining : Option Text) (P : Text → Type 0) (e : FeedRefused)
-    → IsOpened contents file remaining → IfSome remaining (λ bytes. P (strip_bom bytes)) → ((text : Text) → P text → IsOfText file text e)
+    → file ≢ files.Operator → IsOpened contents file remaining → IfSome remaining (λ bytes. P (strip_bom bytes)) → ((text : Text) → P text → IsOfText file text e)
     → IsTableRefusal file e → Explains contents e
-opened_explained contents file remaining P (refusals.Unread other) opened read why h = tt
-opened_explained contents file remaining P (refusals.At other line reason) opened read why h =
+opened_explained contents file remaining P (refusals.Unread other) apart opened read why h = tt
+opened_explained contents file remaining P (refusals.At other line reason) apart opened read why h =
     subst (λ (f : FeedFile). ExplainsAt contents f reason) (sym h.0)
-    (by_text contents file remaining reason h.1 opened (told_text remaining P (IsCause file reason) why read))
-opened_explained contents file remaining P refusals.NoMemory opened read why h = tt
+    (by_text contents file remaining reason apart h.1 opened (told_text remaining P (IsCause file reason) why read))
+opened_explained contents file remaining P refusals.NoMemory apart opened read why h = tt
 
 -- a file that is too long
 pub long_explained : (contents : Option Files) (file : FeedFile) (e : FeedRefused)
-    → IsTooLong contents file → IsTableRefusal file e → IsFor reasons.Limit e → Explains contents e
-long_explained contents file (refusals.Unread other) long h is = tt
-long_explained contents file (refusals.At other line reason) long h is =
+    → file ≢ files.Operator → IsTooLong contents file → IsTableRefusal file e → IsFor reasons.Limit e → Explains contents e
+long_explained contents file (refusals.Unread other) apart long h is = tt
+long_explained contents file (refusals.At other line reason) apart long h is =
     subst (λ (f : FeedFile). ExplainsAt contents f reason) (sym h.0)
-    (subst (λ (r : RowReason). ExplainsAt contents file r) (sym is)
-    (λ other1.
-    of_file contents file (λ bytes. MOST_BYTES < length bytes) (λ bytes. MOST_BYTES < length bytes ⊎ IsCause file reasons.Limit (strip_bom bytes))
-    (λ bytes more. inl more) long))
-long_explained contents file refusals.NoMemory long h is = tt
+    (subst (λ (r : RowReason). ExplainsAt contents file r) (sym is) (
+      apart,
+      of_file contents file (λ bytes. MOST_BYTES < length bytes) (λ bytes. MOST_BYTES < length bytes ⊎ IsCause file reasons.Limit (strip_bom bytes))
+          (λ bytes more. inl more) long,
+    ))
+long_explained contents file refusals.NoMemory apart long h is = tt
 
--- a reason of the operator's file needs no told one
-of_operator : (contents : Option Files) (file : FeedFile) (reason : RowReason) → file ≡ files.Operator → IsTrue (is_of_row reason) → ExplainsAt contents file reason
-of_operator contents file reasons.MissingFile is h = absurd (false≢true h)
-of_operator contents file (reasons.MissingColumn column) is h = λ other. absurd (other is)
-of_operator contents file reasons.Width is h = λ other. absurd (other is)
-of_operator contents file reasons.NotText is h = λ other. absurd (other is)
-of_operator contents file (reasons.Value column) is h = λ other. absurd (other is)
-of_operator contents file reasons.TwoZones is h = λ other. absurd (other is)
-of_operator contents file (reasons.Doubled column) is h = λ other. absurd (other is)
-of_operator contents file (reasons.Unknown column) is h = λ other. absurd (other is)
-of_operator contents file reasons.LineForm is h = λ other. absurd (other is)
-of_operator contents file reasons.Limit is h = λ other. absurd (other is)
+-- a file whose head line must have a column is not the operator's
+pub needs_apart : (file : FeedFile) (column : Column) → IsTrue (needs file column) → file ≢ files.Operator
+needs_apart file column h is = false≢true (subst (λ (f : FeedFile). IsTrue (needs f column)) is h)
 
-pub operator_explained : (contents : Option Files) (e : FeedRefused) → IsRowRefusal files.Operator e → Explains contents e
-operator_explained contents (refusals.Unread other) h = tt
-operator_explained contents (refusals.At other line reason) h = of_operator contents other reason h.0 h.1
-operator_explained contents refusals.NoMemory h = tt
+-- a refusal of the operator's file, with the ids of the told stops
+pub operator_explained : (contents : Option Files) (code : Text) (operator : Option (Bor Text)) (ids : List Text) (e : FeedRefused)
+    → OfFile contents files.Stops (λ stops. AreStopIdsOf stops ids) → IsSomeAnd operator (λ lines. IsOperatorRefusal code ids lines.now e)
+    → ExplainsAll contents code (option_map (λ lines. lines.now) operator) e
+operator_explained contents code None ids e of h = absurd h
+operator_explained contents code (Some lines) ids (refusals.Unread file) of h = absurd h
+operator_explained contents code (Some lines) ids (refusals.At file line reason) of h = inr (
+  h.0,
+  record {
+    ids = ids;
+    of_stops = of;
+    cause = h.1;
+  },
+)
+operator_explained contents code (Some lines) ids refusals.NoMemory of h = inl tt
+
+-- and tells no read that failed
+pub operator_is_read : (code : Text) (operator : Option (Bor Text)) (ids : List Text) (e : FeedRefused)
+    → IsSomeAnd operator (λ lines. IsOperatorRefusal code ids lines.now e) → IsTrue (is_unread e) → ⊥
+operator_is_read code None ids e h is = h
+operator_is_read code (Some lines) ids (refusals.Unread file) h is = h
+operator_is_read code (Some lines) ids (refusals.At file line reason) h is = false≢true is
+operator_is_read code (Some lines) ids refusals.NoMemory h is = false≢true is
 
 -- a file that must be there by itself is missed where it is not there
 pub is_missed : (contents : Option Files) (file : FeedFile) → IsNeeded file → Lacks contents file → IsMissed contents file
@@ -153,11 +167,12 @@ pub no_zone : (contents : Option Files) (e : FeedRefused) → e ≡ refusals.At 
     → OfFile contents files.Agency (HasTaken (λ column head. IsPlace head (column_name columns.AgencyTimezone) (Some column)) (λ column rows. HoldsZone None column rows))
     → Explains contents e
 no_zone contents e is told =
-    subst (λ (refused : FeedRefused). Explains contents refused) (sym is)
-    (λ other.
-    of_file contents files.Agency
-    (HasTaken (λ column head. IsPlace head (column_name columns.AgencyTimezone) (Some column)) (λ column rows. HoldsZone None column rows))
-    (λ bytes. IsCause files.Agency (reasons.Value columns.AgencyTimezone) (strip_bom bytes)) no_rows told)
+    subst (λ (refused : FeedRefused). Explains contents refused) (sym is) (
+      λ same. cc (same),
+      of_file contents files.Agency
+          (HasTaken (λ column head. IsPlace head (column_name columns.AgencyTimezone) (Some column)) (λ column rows. HoldsZone None column rows))
+          (λ bytes. IsCause files.Agency (reasons.Value columns.AgencyTimezone) (strip_bom bytes)) no_rows told,
+    )
 
 -- what holds of a refusal where another fact does
 pub on_err : {T : Type 0} (result : Result T FeedRefused) (P Q : FeedRefused → Type 0) → IfErr result P → ((e : FeedRefused) → P e → Q e) → IfErr result Q

@@ -2,6 +2,7 @@ pub mod CauseFacts
 pub mod Explained
 pub mod IdFacts
 pub mod Named
+pub mod OperatorFacts
 pub mod PlaceFacts
 pub mod ReadFacts
 pub mod StandFacts

@@ -1,11 +1,11 @@
 -- The place of a column in a head line.
-use Rattle.std.proofs.Common.{◌≡◌, ◌≢◌, ℕ, zero, suc, ◌<◌, List, [], ◌∷◌, length, Option, Some, None, true, false, refl, sym, ap, ◌∙◌, arith, Decides, Bool}
+use Rattle.std.proofs.Common.{◌≡◌, ◌≢◌, ℕ, zero, suc, ◌<◌, [], ◌∷◌, length, Some, true, false, refl, ap, arith, Decides, Bool}
 use Rattle.std.specs.Str.{bytes_eq}
 use Rattle.std.proofs.lemmas.Slice.Eq.{bytes_eq-Decides}
 use Rattle.csv.specs.Records.{field_at}
 use Rattle.ojp_values.specs.Texts.{Text}
 use Rattle.ojp_feed_lines.specs.Causes.{LacksName}
-use Rattle.ojp_feed_lines.specs.Rows.{Record, at_place, or_nothing, under}
+use Rattle.ojp_feed_lines.specs.Rows.{Record, at_place, under}
 
 -- no field before this place is the name
 abbrev pub LacksBefore : Record → Text → ℕ → Type 0

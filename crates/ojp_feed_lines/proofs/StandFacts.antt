@@ -1,6 +1,6 @@
 -- What the rows so far stand for, and what all rows do.
-use Rattle.std.proofs.Common.{◌≡◌, ◌<◌, ℕ, List, [], ◌∷◌, ◌++◌, length, map, Option, Some, None, refl, sym, ap, ◌∙◌, arith, length-append}
-use Rattle.std.specs.Prelude.{All, String, string_bytes, IfSome, IsSomeAnd}
+use Rattle.std.proofs.Common.{◌≡◌, ℕ, List, [], ◌∷◌, ◌++◌, map, Option, Some, None, refl, sym, ◌∙◌, arith, length-append}
+use Rattle.std.specs.Prelude.{String, string_bytes, IsSomeAnd}
 use Rattle.std.specs.declared.alloc.Global.{Global}
 use Rattle.std.proofs.lemmas.List.{map-append}
 use Rattle.std.proofs.lemmas.List.Elements.{All-append, All-cons, All-nil}
@@ -8,13 +8,14 @@ use Rattle.ojp_values.specs.Texts.{Text}
 use Rattle.ojp_feed_rows.specs.declared.stops.Route.{Route}
 use Rattle.ojp_feed_lines.specs.Columns.{column_name}
 use Rattle.ojp_feed_lines.specs.Folders.{Files}
-use Rattle.ojp_feed_lines.specs.IdTexts.{HoldsIds}
-use Rattle.ojp_feed_lines.specs.Places.{AreRoutesOf, HoldsZone, IsZoneOf, route_at, route_texts, route_under}
+use Rattle.ojp_feed_lines.specs.IdTexts.{HoldsIds, id_texts}
+use Rattle.ojp_feed_lines.specs.Places.{AreRoutesOf, AreStopIdsOf, HoldsZone, IsZoneOf, route_at, route_texts, route_under}
 use Rattle.ojp_feed_lines.specs.Rows.{IsPlace, OfFile, Record, at_place, under}
-use Rattle.ojp_feed_lines.specs.Tables.{HasTaken, HasTakenAll}
+use Rattle.ojp_feed_lines.specs.Tables.{HasTaken}
 use Rattle.ojp_feed_lines.specs.declared.files.FeedFile.{FeedFile}
 use Rattle.ojp_feed_lines.specs.declared.ids.Ids.{Ids}
 use Rattle.ojp_feed_lines.specs.declared.columns.Column.TheVariants as columns
+use Rattle.ojp_feed_lines.specs.RowPlaces.{StopPlaces}
 use Rattle.ojp_feed_lines.specs.declared.routes.RouteColumns.{RouteColumns}
 
 -- the first row names the zone
@@ -91,3 +92,17 @@ routes_are routes ids bytes h = record {
 pub routes_of : (contents : Option Files) (file : FeedFile) (routes : List Route) (ids : Ids)
     → OfFile contents file (HasTaken RoutePlaces (HoldsRoutes routes ids)) → OfFile contents file (λ bytes. AreRoutesOf bytes routes)
 routes_of contents file routes ids h = of_file contents file (HasTaken RoutePlaces (HoldsRoutes routes ids)) (λ bytes. AreRoutesOf bytes routes) (routes_are routes ids) h
+
+ids_are : (ids : Ids) (bytes : Text) → HasTaken StopPlaces (λ c rows. HoldsIds ids c.id rows) bytes → AreStopIdsOf bytes (id_texts ids)
+ids_are ids bytes h = record {
+  head = h.head;
+  rows = h.rows;
+  are_rows = h.all;
+  same = h.held ∙ same_maps (λ row. at_place row (Some h.columns.id)) (under h.head (column_name columns.StopId)) (λ row. sym (h.placed.id row)) h.rows;
+}
+
+-- the ids of the stops by the bytes of the file
+pub stop_ids_of : (contents : Option Files) (file : FeedFile) (ids : Ids)
+    → OfFile contents file (HasTaken StopPlaces (λ c rows. HoldsIds ids c.id rows)) → OfFile contents file (λ bytes. AreStopIdsOf bytes (id_texts ids))
+stop_ids_of contents file ids h =
+    of_file contents file (HasTaken StopPlaces (λ c rows. HoldsIds ids c.id rows)) (λ bytes. AreStopIdsOf bytes (id_texts ids)) (ids_are ids) h

@@ -1,5 +1,5 @@
 -- Fields of the rows of a feed.
-use Rattle.std.specs.Prelude.{◌≢◌, ◌≤◌, ℕ, ◌+◌, ◌-◌, ◌*◌, ◌==◌, ◌&&◌, Bool, true, false, cond, if◌then◌else◌, codes, bytes_eq, length, nat_le, nat_lt, slice_index, slice_range, not, List, ◌++◌, Option, Some, None}
+use Rattle.std.specs.Prelude.{◌≢◌, ◌≤◌, ℕ, ◌+◌, ◌-◌, ◌*◌, ◌==◌, ◌&&◌, Bool, true, false, cond, if◌then◌else◌, codes, bytes_eq, length, nat_le, nat_lt, slice_index, slice_range, not, ◌++◌, Option, Some, None}
 use Rattle.ojp_values.specs.Dates.{date_of, two, four}
 use Rattle.ojp_values.specs.declared.dates.CalendarDate.{CalendarDate}
 use Rattle.ojp_values.specs.Numbers.{are_digits, number}

@@ -5,6 +5,7 @@ pub mod Folders
 pub mod IdTexts
 pub mod Lines
 pub mod MemFolders
+pub mod OperatorCauses
 pub mod Places
 pub mod ReasonWords
 pub mod Refusals

@@ -1,4 +1,4 @@
--- What rows stand for: the zone of a feed, and its routes.
+-- What rows stand for: the zone of a feed, its routes, and the ids of its stops.
 use Rattle.std.specs.Prelude.{◌≡◌, ◌<◌, ℕ, List, [], length, map, string_bytes, String, All, Option, Some, None}
 use Rattle.std.specs.declared.alloc.Global.{Global}
 use Rattle.ojp_values.specs.Texts.{Text}
@@ -29,6 +29,13 @@ pub record AreRoutesOf (bytes : Text) (routes : List Route) : Type 0 where
   pub rows : List Record
   pub are_rows : AreRows bytes head rows
   pub same : map route_texts routes ≡ map (route_under head) rows
+
+-- the ids are those of the rows of the bytes, in their order
+pub record AreStopIdsOf (bytes : Text) (ids : List Text) : Type 0 where
+  pub head : Record
+  pub rows : List Record
+  pub are_rows : AreRows bytes head rows
+  pub same : ids ≡ map (under head (column_name columns.StopId)) rows
 
 -- the same by places in a row, while rows are taken
 

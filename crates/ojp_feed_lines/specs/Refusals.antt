@@ -1,9 +1,11 @@
 -- Why a feed is refused.
-use Rattle.std.specs.Prelude.{◌≡◌, ◌≢◌, ◌<◌, ◌⊎◌, IsTrue, Bool, true, false, ⊤, Option, codes, length}
+use Rattle.std.specs.Prelude.{◌≡◌, ◌≢◌, ◌<◌, ◌⊎◌, ℕ, IsSomeAnd, IsTrue, Bool, true, false, ⊤, List, Option, codes, length}
 use Rattle.csv.specs.Reading.{strip_bom}
 use Rattle.ojp_values.specs.Texts.{Text}
 use Rattle.ojp_feed_lines.specs.Causes.{IsCause}
 use Rattle.ojp_feed_lines.specs.Folders.{Files, Lacks}
+use Rattle.ojp_feed_lines.specs.OperatorCauses.{IsOperatorCause}
+use Rattle.ojp_feed_lines.specs.Places.{AreStopIdsOf}
 use Rattle.ojp_feed_lines.specs.Rows.{OfFile}
 use Rattle.ojp_feed_lines.specs.declared.files.FeedFile.{FeedFile}
 use Rattle.ojp_feed_lines.specs.declared.files.FeedFile.TheVariants as files
@@ -45,14 +47,14 @@ IsMissed contents files.Transfers = ⊥
 IsMissed contents files.StopTimes = Lacks contents files.StopTimes
 IsMissed contents files.Operator = ⊥
 
--- the told bytes of the file are the cause, without the byte order mark that they may begin with; of the operator's file, which
--- does not lie in the folder, nothing is said
+-- the told bytes of the file are the cause, without the byte order mark that they may begin with; the operator's file does not
+-- lie in the folder
 abbrev pub HasCause : Option Files → FeedFile → RowReason → Type 0
-HasCause contents file reason = file ≢ files.Operator → OfFile contents file (λ bytes. IsCause file reason (strip_bom bytes))
+HasCause contents file reason = (file ≢ files.Operator) × OfFile contents file (λ bytes. IsCause file reason (strip_bom bytes))
 
 -- the same of a limit: the file is too long, or has too many rows
 abbrev pub PassesLimit : Option Files → FeedFile → Type 0
-PassesLimit contents file = file ≢ files.Operator → OfFile contents file (λ bytes. MOST_BYTES < length bytes ⊎ IsCause file reasons.Limit (strip_bom bytes))
+PassesLimit contents file = (file ≢ files.Operator) × OfFile contents file (λ bytes. MOST_BYTES < length bytes ⊎ IsCause file reasons.Limit (strip_bom bytes))
 
 -- a file is told as missing only where it is missed, and else by its bytes
 abbrev pub ExplainsAt : Option Files → FeedFile → RowReason → Type 0
@@ -67,11 +69,28 @@ ExplainsAt contents file (reasons.Unknown column) = HasCause contents file (reas
 ExplainsAt contents file reasons.LineForm = HasCause contents file reasons.LineForm
 ExplainsAt contents file reasons.Limit = PassesLimit contents file
 
--- the told files explain why a line is refused
+-- the told files explain why a line of the folder is refused
 abbrev pub Explains : Option Files → FeedRefused → Type 0
 Explains contents (refusals.Unread file) = ⊤
 Explains contents (refusals.At file line reason) = ExplainsAt contents file reason
 Explains contents refusals.NoMemory = ⊤
+
+-- the bytes of the operator's file are the cause, with the ids of the told stops.txt
+pub record IsOperatorRefused (contents : Option Files) (code : Text) (bytes : Text) (line : ℕ) (reason : RowReason) : Type 0 where
+  pub ids : List Text
+  pub of_stops : OfFile contents files.Stops (λ stops. AreStopIdsOf stops ids)
+  pub cause : IsOperatorCause code ids bytes line reason
+
+-- the operator's file, read for the region of this code, explains why a line of it is refused
+abbrev pub ExplainsOperator : Option Files → Text → Option Text → FeedRefused → Type 0
+ExplainsOperator contents code operator (refusals.Unread file) = ⊥
+ExplainsOperator contents code operator (refusals.At file line reason) =
+    (file ≡ files.Operator) × IsSomeAnd operator (λ bytes. IsOperatorRefused contents code bytes line reason)
+ExplainsOperator contents code operator refusals.NoMemory = ⊥
+
+-- the told files or the operator's explain why a line is refused
+abbrev pub ExplainsAll : Option Files → Text → Option Text → FeedRefused → Type 0
+ExplainsAll contents code operator refused = Explains contents refused ⊎ ExplainsOperator contents code operator refused
 
 -- the reason is not that a file is not there
 abbrev pub is_of_row : RowReason → Bool

@@ -1,9 +1,11 @@
 //! Ids by number.
 
-ghost use Rattle.std.specs.Prelude.{◌≡◌, ◌≤◌, ◌↔◌, ◌∷◌, ◌++◌, [], Contains, IfErr, IfOk, IsTrue, List, Ok, OnOk, length, false, string_bytes, true};
+ghost use Rattle.std.specs.Prelude.{◌≡◌, ◌≤◌, ◌↔◌, ◌∷◌, ◌++◌, [], Contains, IfErr, IfOk, IsTrue, List, MatchOption, Ok, OnOk, length, false, string_bytes, true};
 ghost use Rattle.csv.specs.Records.{field_at, fields_of};
 ghost use Rattle.ojp_feed_lines.specs.Causes.{IsIdRefusal};
 ghost use Rattle.ojp_feed_lines.specs.IdTexts.{HoldsIds, id_texts};
+ghost use Rattle.ojp_feed_lines.specs.Lines.{IsIdOf};
+ghost use Rattle.ojp_feed_lines.specs.OperatorCauses.{IsUnknown};
 ghost use Rattle.ojp_feed_lines.specs.Refusals.{IsRowRefusal};
 ghost use Rattle.ojp_feed_lines.specs.Rows.{Record, or_nothing};
 
@@ -33,9 +35,12 @@ impl Ids {
     }
 
     /// The number of the id.
-    pub fn number(&self, id: &str) -> Option<u32> {
+    pub fn number(&self, id: &str) -> Option<u32>
+        ensures { MatchOption result (IsUnknown (id_texts self.now) id.now) (λ number. IsIdOf (id_texts self.now) number id.now) }
+    {
         match self.ids.get_index_of(id) {
-            Some(number) => u32::try_from(number).ok(),
+            Some(number) if number <= u32::MAX as usize => Some(number as u32),
+            Some(_) => None,
             None => None,
         }
     }

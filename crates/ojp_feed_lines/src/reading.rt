@@ -1,9 +1,11 @@
 //! A feed, read file by file.
 
-ghost use Rattle.std.specs.Prelude.{◌≡◌, ◌≤◌, IfErr, IfOk, IsTrue, string_bytes};
+ghost use Rattle.std.specs.Prelude.{◌≡◌, ◌≤◌, IfErr, IfOk, IsSomeAnd, IsTrue, option_map, string_bytes};
 ghost use Rattle.ojp_outside.specs.Causes.{Rose};
-ghost use Rattle.ojp_feed_lines.specs.Refusals.{Explains, IsRowRefusal, is_unread};
-ghost use Rattle.ojp_feed_lines.specs.Places.{AreRoutesOf, IsZoneOf};
+ghost use Rattle.ojp_feed_lines.specs.Refusals.{Explains, ExplainsAll, is_unread};
+ghost use Rattle.ojp_feed_lines.specs.IdTexts.{id_texts};
+ghost use Rattle.ojp_feed_lines.specs.OperatorCauses.{IsOperatorRefusal};
+ghost use Rattle.ojp_feed_lines.specs.Places.{AreRoutesOf, AreStopIdsOf, IsZoneOf};
 ghost use Rattle.ojp_feed_lines.specs.Rows.{OfFile};
 
 use crate::agency::read_zone_name;
@@ -50,7 +52,7 @@ pub fn read_feed<D: Folder>(
     ensures kept { (D.seen folder.new).contents ≡ (D.seen folder.old).contents }
     ensures later { (D.seen folder.old).faults ≤ (D.seen folder.new).faults }
     ensures unread { IfErr result (λ e. IsTrue (is_unread e) → Rose (D.seen folder.old).faults (D.seen folder.new).faults) }
-    ensures refused { IfErr result (λ e. Explains (D.seen folder.old).contents e) }
+    ensures refused { IfErr result (λ e. ExplainsAll (D.seen folder.old).contents asked.entry.code (option_map (λ lines. lines.now) asked.entry.operator) e) }
 {
     let zone_name = read_zone_name(alloc, folder)?;
     let places = read_places(alloc, folder)?;
@@ -76,6 +78,7 @@ struct Runs {
 }
 
 fn read_places<D: Folder>(alloc: Global, folder: &mut D) -> Result<Places, FeedRefused>
+    ensures ids { IfOk result (λ places. OfFile (D.seen folder.old).contents FeedFile.Stops (λ bytes. AreStopIdsOf bytes (id_texts places.stops.ids))) }
     ensures routes { IfOk result (λ places. OfFile (D.seen folder.old).contents FeedFile.Routes (λ bytes. AreRoutesOf bytes places.routes.routes.items)) }
     ensures kept { (D.seen folder.new).contents ≡ (D.seen folder.old).contents }
     ensures later { (D.seen folder.old).faults ≤ (D.seen folder.new).faults }
@@ -94,7 +97,7 @@ fn operator_of(
     code: Code,
     stops: &Ids,
 ) -> Result<Operator, FeedRefused>
-    ensures { IfErr result (λ e. IsRowRefusal FeedFile.Operator e) }
+    ensures { IfErr result (λ e. IsSomeAnd lines.entry (λ bytes. IsOperatorRefusal code (id_texts stops.now) bytes.now e)) }
 {
     match lines {
         Some(bytes) => read_operator(alloc, bytes, code, stops),

@@ -1,12 +1,14 @@
 //! `stops.txt`.
 
-ghost use Rattle.std.specs.Prelude.{◌≡◌, ◌≤◌, IfErr, IsTrue};
+ghost use Rattle.std.specs.Prelude.{◌≡◌, ◌≤◌, IfErr, IfOk, IsTrue};
 ghost use Rattle.csv.specs.Records.{fields_of};
 ghost use Rattle.ojp_outside.specs.Causes.{Rose};
 ghost use Rattle.ojp_feed_lines.specs.Causes.{IsOfPlaced};
-ghost use Rattle.ojp_feed_lines.specs.IdTexts.{HoldsIds};
+ghost use Rattle.ojp_feed_lines.specs.IdTexts.{HoldsIds, id_texts};
+ghost use Rattle.ojp_feed_lines.specs.Places.{AreStopIdsOf};
 ghost use Rattle.ojp_feed_lines.specs.Refusals.{Explains, IsRowRefusal, is_unread};
 ghost use Rattle.ojp_feed_lines.specs.RowPlaces.{StopPlaces};
+ghost use Rattle.ojp_feed_lines.specs.Rows.{OfFile};
 ghost use Rattle.ojp_feed_lines.specs.declared.columns.Column.{Column};
 ghost use Rattle.ojp_feed_lines.specs.declared.files.FeedFile.{FeedFile};
 
@@ -48,6 +50,7 @@ struct StopRows {
 
 /// The stops of the folder.
 pub(crate) fn read_stops<D: Folder>(alloc: Global, folder: &mut D) -> Result<Stops, FeedRefused>
+    ensures ids { IfOk result (λ stops. OfFile (D.seen folder.old).contents FeedFile.Stops (λ bytes. AreStopIdsOf bytes (id_texts stops.ids))) }
     ensures kept { (D.seen folder.new).contents ≡ (D.seen folder.old).contents }
     ensures later { (D.seen folder.old).faults ≤ (D.seen folder.new).faults }
     ensures unread { IfErr result (λ e. IsTrue (is_unread e) → Rose (D.seen folder.old).faults (D.seen folder.new).faults) }
@@ -117,7 +120,9 @@ fn stop_of<F: OpenedFile>(
 }
 
 /// The stops with their parents, and how many of these are no stops.
-fn with_parents(rows: StopRows) -> Stops {
+fn with_parents(rows: StopRows) -> Stops
+    ensures { result.ids ≡ rows.ids }
+{
     let mut stops = rows.stops;
     let unknown_parents = set_parents(&rows.ids, &rows.parents, &mut stops);
     Stops {

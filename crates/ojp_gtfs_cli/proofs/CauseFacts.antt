@@ -10,8 +10,8 @@ use Rattle.ojp_timetable.specs.Tables.{Timetable}
 use Rattle.ojp_calendars.specs.Files.{HasCause, IsNoFile}
 use Rattle.ojp_calendars.specs.declared.faults.ZoneFault.{ZoneFault}
 use Rattle.ojp_calendars.specs.declared.faults.ZoneFault.TheVariants as zones
-use Rattle.ojp_feed_lines.specs.Folders.{FolderView}
-use Rattle.ojp_feed_lines.specs.Refusals.{Explains, is_unread}
+use Rattle.ojp_feed_lines.specs.Folders.{Files, FolderView}
+use Rattle.ojp_feed_lines.specs.Refusals.{ExplainsAll, is_unread}
 use Rattle.ojp_feed_lines.specs.Rows.{or_nothing}
 use Rattle.ojp_feed_lines.specs.declared.refusals.FeedRefused.{FeedRefused}
 use Rattle.ojp_feed_lines.specs.declared.refusals.FeedRefused.TheVariants as feeds
@@ -25,11 +25,11 @@ use Rattle.ojp_region.specs.Files.{IsFileOf, ReadsFile}
 use Rattle.ojp_region.specs.declared.files.FileRefused.{FileRefused}
 use Rattle.ojp_region.specs.declared.files.FileRefused.TheVariants as files
 use Rattle.ojp_steps.specs.Lent.{Lent, Tells, before, after, lent}
-use Rattle.ojp_gtfs_cli.specs.Causes.{ConversionFailsAs, FailsAs, GivesNone, HasNoZoneFile, HasTooLong, OthersFailAs, RowsFailAs, StoreFails, StoreGoesOn, ZoneFailsAs}
+use Rattle.ojp_gtfs_cli.specs.Causes.{ConversionFailsAs, FailsAs, FileFailsAs, GivesNone, HasNoZoneFile, HasTooLong, OthersFailAs, RowsFailAs, StoreFails, StoreGoesOn, ZoneFailsAs}
 use Rattle.ojp_gtfs_cli.specs.Failures.{failure_of_conversion, failure_of_feed, failure_of_file}
 use Rattle.ojp_gtfs_cli.specs.Feeds.{AreSettings, IsFeedOf, OfStored, Stored, held_day, zone_path}
 use Rattle.ojp_gtfs_cli.specs.Lines.{conversion_lines, feed_line, other_line}
-use Rattle.ojp_gtfs_cli.specs.Refused.{HasNoZone}
+use Rattle.ojp_gtfs_cli.specs.Refused.{HasNoZone, IsOperatorOf, IsRowRefused}
 use Rattle.ojp_gtfs_cli.specs.Words.{StandsBehind, Wanted}
 use Rattle.ojp_gtfs_cli.specs.declared.failures.Failure.{Failure}
 use Rattle.ojp_gtfs_cli.specs.declared.failures.Failure.TheVariants.{Words, Unread, Refused, Memory}
@@ -144,18 +144,35 @@ others_fail_behind {E} seen all front rest options a b c old mid new failure joi
     subst (λ (o : List Text). OthersFailAs o a c (lent seen old new) failure) (sym joined) (others_fail_later front rest a b c (lent seen old new) failure on told)
 
 -- the feed was not read, behind a call over which the store goes on
-pub of_feed : {E : Type 0} (operator : Text) (folder folder_after : FolderView) (store store_after : StoreView) (report : Lent E SinkView) (refused : FeedRefused)
-    → (IsTrue (is_unread refused) → Rose folder.faults folder_after.faults) → Explains folder.contents refused → Tells report (feed_line operator refused)
-    → RowsFailAs operator folder folder_after store store_after report (failure_of_feed refused)
-of_feed operator folder folder_after store store_after report (feeds.Unread file) rose why told = inl (rose refl)
-of_feed operator folder folder_after store store_after report (feeds.At file line reason) rose why told = record {
+pub of_feed : {E : Type 0} (code : Text) (name operator : Option Text) (folder folder_after : FolderView) (store store_after : StoreView)
+    (report : Lent E SinkView) (refused : FeedRefused)
+    → IsOperatorOf store.contents name operator → (IsTrue (is_unread refused) → Rose folder.faults folder_after.faults)
+    → ExplainsAll folder.contents code operator refused → Tells report (feed_line (or_nothing name) refused)
+    → RowsFailAs code name folder folder_after store store_after report (failure_of_feed refused)
+of_feed code name operator folder folder_after store store_after report (feeds.Unread file) held rose why told = inl (rose refl)
+of_feed code name operator folder folder_after store store_after report (feeds.At file line reason) held rose why told = record {
   file = file;
   line = line;
   reason = reason;
+  operator = operator;
+  held = held;
   explained = why;
   told = told;
 }
-of_feed operator folder folder_after store store_after report feeds.NoMemory rose why told = tt
+of_feed code name operator folder folder_after store store_after report feeds.NoMemory held rose why told = tt
+
+-- the operator's file was not read
+pub of_operator : {E : Type 0} (code : Text) (name : Option Text) (folder : FolderView) (store store_after : StoreView) (report : Lent E SinkView) (failure : Failure)
+    → FileFailsAs store store_after failure → RowsFailAs code name folder folder store store_after report failure
+of_operator code name folder store store_after report Words fails = fails
+of_operator code name folder store store_after report Unread fails = inr fails
+of_operator code name folder store store_after report Refused fails = absurd fails
+of_operator code name folder store store_after report Memory fails = tt
+
+-- the files that a store tells are those that it told before
+pub rows_stored : {E : Type 0} (contents : Option Files) (a b : Stored) (code : Text) (name : Option Text) (report : Lent E SinkView)
+    → a ≡ b → IsRowRefused contents a code name report → IsRowRefused contents b code name report
+rows_stored contents a b code name report same refused = subst (λ (stored : Stored). IsRowRefused contents stored code name report) same refused
 
 -- a feed has no timetable for this refusal
 pub unconverted : {E : Type 0} (feed : Feed) (settings : Settings) (report : Lent E SinkView) (fits : Option ℕ) (refused : ConvertRefused)
@@ -186,12 +203,13 @@ module _ {D S E : Type 0} (wanted : Wanted) (zoneinfo : Text) (folder : Lent D F
 
   -- the rows, behind calls over which the store goes on
   pub of_rows : (middle : StoreView) (failure : Failure) → StoreGoesOn (before store) middle
-      → RowsFailAs (or_nothing wanted.chosen.exchange) (before folder) (after folder) middle (after store) (lent seen old new) failure
+      → RowsFailAs wanted.code wanted.chosen.exchange (before folder) (after folder) middle (after store) (lent seen old new) failure
       → FailsAs wanted zoneinfo folder store (lent seen old new) failure
   of_rows middle Words on fails = fails
   of_rows middle Unread on (inl rose) = inl rose
   of_rows middle Unread on (inr fails) = inr (inl (store_fails_later (before store) middle (after store) on fails))
-  of_rows middle Refused on fails = inr (inl fails)
+  of_rows middle Refused on fails =
+      inr (inl (rows_stored (before folder).contents middle.contents (before store).contents wanted.code wanted.chosen.exchange (lent seen old new) on.kept fails))
   of_rows middle Memory on fails = tt
 
   -- the zone of the folder's feed, behind calls over which the store goes on

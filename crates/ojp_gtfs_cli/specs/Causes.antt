@@ -65,12 +65,19 @@ OthersFailAs options old new report Unread = StoreFails old new
 OthersFailAs options old new report Refused = IsOtherRefused options old.contents report
 OthersFailAs options old new report Memory = Unit {0}
 
--- of the rows of the feed, with the operator's file of this name
-abbrev pub RowsFailAs : {E : Type 0} → Text → FolderView → FolderView → StoreView → StoreView → Lent E SinkView → Failure → Type 0
-RowsFailAs operator folder folder_after store store_after report Words = ⊥
-RowsFailAs operator folder folder_after store store_after report Unread = Rose folder.faults folder_after.faults ⊎ StoreFails store store_after
-RowsFailAs operator folder folder_after store store_after report Refused = IsRowRefused folder.contents operator report
-RowsFailAs operator folder folder_after store store_after report Memory = Unit {0}
+-- of the operator's file
+abbrev pub FileFailsAs : StoreView → StoreView → Failure → Type 0
+FileFailsAs old new Words = ⊥
+FileFailsAs old new Unread = StoreFails old new
+FileFailsAs old new Refused = ⊥
+FileFailsAs old new Memory = Unit {0}
+
+-- of the rows of the feed, read for the region of this code and with the operator's file of this name
+abbrev pub RowsFailAs : {E : Type 0} → Text → Option Text → FolderView → FolderView → StoreView → StoreView → Lent E SinkView → Failure → Type 0
+RowsFailAs code name folder folder_after store store_after report Words = ⊥
+RowsFailAs code name folder folder_after store store_after report Unread = Rose folder.faults folder_after.faults ⊎ StoreFails store store_after
+RowsFailAs code name folder folder_after store store_after report Refused = IsRowRefused folder.contents store.contents code name report
+RowsFailAs code name folder folder_after store store_after report Memory = Unit {0}
 
 -- of the zone of the feed, where this one is asked for
 abbrev pub ZoneFailsAs : {E : Type 0} → Option Text → Text → Feed → StoreView → StoreView → Lent E SinkView → Failure → Type 0

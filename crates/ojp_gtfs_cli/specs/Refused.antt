@@ -1,5 +1,5 @@
 -- Why a feed, or another file, is refused: what is wrong with it, and the line that names this on standard error.
-use Rattle.std.specs.Prelude.{◌≡◌, ℕ, ◌⊎◌, false, List, Option, None, IsUtf8, codes, string_bytes}
+use Rattle.std.specs.Prelude.{◌≡◌, ℕ, ◌⊎◌, ⊤, false, List, Option, Some, None, IsUtf8, codes, string_bytes}
 use Rattle.ojp_values.specs.Texts.{Text}
 use Rattle.ojp_outside.specs.Files.{IsContents}
 use Rattle.ojp_outside.specs.Seen.{SinkView}
@@ -11,7 +11,7 @@ use Rattle.ojp_feed_rows.specs.declared.feed.Feed.{Feed}
 use Rattle.ojp_feed_rows.specs.declared.settings.Settings.{Settings}
 use Rattle.ojp_feed_rows.specs.declared.settings.Window.{Window}
 use Rattle.ojp_feed_lines.specs.Folders.{Files}
-use Rattle.ojp_feed_lines.specs.Refusals.{Explains}
+use Rattle.ojp_feed_lines.specs.Refusals.{ExplainsAll}
 use Rattle.ojp_feed_lines.specs.ReasonWords.{row_words}
 use Rattle.ojp_feed_lines.specs.Rows.{or_nothing}
 use Rattle.ojp_feed_lines.specs.declared.files.FeedFile.{FeedFile}
@@ -37,13 +37,23 @@ pub record IsOtherRefused {E : Type 0} (options : List Text) (stored : Stored) (
   pub refused : IsTextRefused bytes line reason
   pub told : Tells report (refused_line file line (reason_words reason))
 
--- a line of the feed or of the operator's file is refused, for a reason that the folder's files explain
-pub record IsRowRefused {E : Type 0} (contents : Option Files) (operator : Text) (report : Lent E SinkView) : Type 0 where
+-- the bytes of the operator's file are those of the file of this name in the store; there are none where no file is named
+abbrev pub IsOperatorOf : Stored → Option Text → Option Text → Type 0
+IsOperatorOf stored None None = ⊤
+IsOperatorOf stored None (Some bytes) = ⊥
+IsOperatorOf stored (Some name) None = ⊥
+IsOperatorOf stored (Some name) (Some bytes) = IsContents stored name bytes
+
+-- a line of the feed or of the operator's file, which has this name in the store, is refused for the region of the code, for a
+-- reason that the folder's files or the operator's explain
+pub record IsRowRefused {E : Type 0} (contents : Option Files) (stored : Stored) (code : Text) (name : Option Text) (report : Lent E SinkView) : Type 0 where
   pub file : FeedFile
   pub line : ℕ
   pub reason : RowReason
-  pub explained : Explains contents (feeds.At file line reason)
-  pub told : Tells report (refused_line (file_name operator file) line (row_words reason))
+  pub operator : Option Text
+  pub held : IsOperatorOf stored name operator
+  pub explained : ExplainsAll contents code operator (feeds.At file line reason)
+  pub told : Tells report (refused_line (file_name (or_nothing name) file) line (row_words reason))
 
 -- ---- no zone
 
@@ -98,5 +108,5 @@ pub record IsFeedUnconverted {E : Type 0} (wanted : Wanted) (zoneinfo : Text) (c
 abbrev pub IsRefusedFor : {E : Type 0} → Wanted → Text → Option Files → Stored → Lent E SinkView → Type 0
 IsRefusedFor wanted zoneinfo contents stored report =
     IsOtherRefused wanted.options stored report
-    ⊎ (IsRowRefused contents (or_nothing wanted.chosen.exchange) report
+    ⊎ (IsRowRefused contents stored wanted.code wanted.chosen.exchange report
     ⊎ (IsFeedUnzoned wanted zoneinfo contents stored report ⊎ IsFeedUnconverted wanted zoneinfo contents stored report))

@@ -1,11 +1,12 @@
 //! From the words to a timetable that was read.
 
-ghost use Rattle.std.specs.Prelude.{◌≡◌, ◌∷◌, IfErr, IfOk, IfSome, OnOk, codes};
+ghost use Rattle.std.specs.Prelude.{◌≡◌, ◌∷◌, IfErr, IfOk, IfSome, OnOk, codes, option_map};
 ghost use Rattle.ojp_feed_lines.specs.Rows.{or_nothing};
 ghost use Rattle.ojp_steps.specs.Lent.{lent};
-ghost use Rattle.ojp_gtfs_cli.specs.Causes.{ConversionFailsAs, FailsAs, FolderGoesOn, OthersFailAs, RowsFailAs, StoreGoesOn};
+ghost use Rattle.ojp_gtfs_cli.specs.Causes.{ConversionFailsAs, FailsAs, FileFailsAs, FolderGoesOn, OthersFailAs, RowsFailAs, StoreGoesOn};
 ghost use Rattle.ojp_gtfs_cli.specs.Feeds.{IsFeedOf};
 ghost use Rattle.ojp_gtfs_cli.specs.Meanings.{text_in, wanted_by};
+ghost use Rattle.ojp_gtfs_cli.specs.Refused.{IsOperatorOf};
 ghost use Rattle.ojp_gtfs_cli.specs.Runs.{IsConverted, IsTextOf};
 ghost use Rattle.ojp_gtfs_cli.specs.Words.{StandsBehind, texts_of};
 
@@ -145,32 +146,58 @@ fn read_rows<D: Folder, S: Store, E: Sink>(
     ensures quiet { OnOk result (report.new ≡ report.old) }
     ensures folder { FolderGoesOn (D.seen folder.old) (D.seen folder.new) }
     ensures store { StoreGoesOn (S.seen store.old) (S.seen store.new) }
-    ensures cause { IfErr result (RowsFailAs (or_nothing (text_in words.now.options.exchange))
+    ensures cause { IfErr result (RowsFailAs words.now.code (text_in words.now.options.exchange)
         (D.seen folder.old) (D.seen folder.new)
         (S.seen store.old) (S.seen store.new)
         (lent E.seen report.old report.new)) }
 {
     let name = name_or_nothing(words.options.exchange);
-    let operator = match words.options.exchange {
-        None => None,
-        Some(file) => match store.read_file(alloc, file) {
-            Ok(bytes) => Some(bytes),
-            Err(StoreRefused::Failed) => return Err(unread(report, file)),
-            Err(StoreRefused::TooLong) => return Err(too_long(report, file)),
-            Err(StoreRefused::NoMemory) => return Err(no_memory(report)),
-        },
+    let operator = match read_operator(alloc, words.options.exchange, store, report) {
+        Ok(operator) => operator,
+        Err(failure) => return Err(failure),
     };
     let asked = Asked {
         code: words.code,
         window: words.window,
-        operator: match &operator {
-            Some(bytes) => Some(bytes.as_slice()),
-            None => None,
-        },
+        operator: bytes_in(&operator),
     };
     match read_feed(alloc, folder, asked) {
         Ok(feed) => Ok(feed),
         Err(refused) => Err(refused_feed(report, refused, name)),
+    }
+}
+
+/// The bytes of the operator's file, where one is named.
+#[tactic(auto, using(crate::proofs::CauseFacts::too_long))]
+fn read_operator<S: Store, E: Sink>(
+    alloc: Global,
+    name: Option<&str>,
+    store: &mut S,
+    report: &mut E,
+) -> Result<Option<Vec<u8>>, Failure>
+    ensures held { IfOk result (λ bytes. IsOperatorOf (S.seen store.old).contents (text_in name.entry) (option_map (λ held. held.items) bytes)) }
+    ensures quiet { OnOk result (report.new ≡ report.old) }
+    ensures store { StoreGoesOn (S.seen store.old) (S.seen store.new) }
+    ensures cause { IfErr result (FileFailsAs (S.seen store.old) (S.seen store.new)) }
+{
+    match name {
+        None => Ok(None),
+        Some(file) => match store.read_file(alloc, file) {
+            Ok(bytes) => Ok(Some(bytes)),
+            Err(StoreRefused::Failed) => Err(unread(report, file)),
+            Err(StoreRefused::TooLong) => Err(too_long(report, file)),
+            Err(StoreRefused::NoMemory) => Err(no_memory(report)),
+        },
+    }
+}
+
+/// The bytes, where there are any.
+fn bytes_in(bytes: &Option<Vec<u8>>) -> Option<&[u8]>
+    ensures { option_map (λ lines. lines.now) result ≡ option_map (λ held. held.items) bytes.now }
+{
+    match bytes {
+        Some(bytes) => Some(bytes.as_slice()),
+        None => None,
     }
 }
 

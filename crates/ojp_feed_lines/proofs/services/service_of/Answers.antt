@@ -1,4 +1,4 @@
-use Rattle.std.proofs.Common.{Some, subst}
+use Rattle.std.proofs.Common.{subst}
 use Rattle.std.specs.Prelude.{Contains}
 use Rattle.ojp_values.specs.Texts.{Text}
 use Rattle.csv.specs.Records.{fields_of}

@@ -1,4 +1,4 @@
-use Rattle.std.proofs.Common.{◌∙◌, arith}
+use Rattle.std.proofs.Common.{◌∙◌}
 use Rattle.std.proofs.lemmas.List.{length-set}
 use Rattle.csv.specs.Records.{fields_of}
 use Rattle.ojp_feed_lines.proofs.Explained.{passed_is}

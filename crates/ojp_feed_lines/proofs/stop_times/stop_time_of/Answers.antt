@@ -1,4 +1,4 @@
-use Rattle.std.proofs.Common.{◌∙◌, refl, sym, Some, None}
+use Rattle.std.proofs.Common.{◌∙◌, refl, sym, Some}
 use Rattle.csv.specs.Records.{fields_of}
 use Rattle.ojp_feed_lines.specs.declared.columns.Column.TheVariants as columns
 use Rattle.ojp_feed_lines.specs.declared.files.FeedFile.TheVariants.{StopTimes}

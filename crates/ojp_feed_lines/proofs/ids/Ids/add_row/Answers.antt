@@ -2,7 +2,6 @@ use Rattle.std.proofs.Common.{◌≡◌, ◌∙◌, Some, Ok, true, false, refl,
 use Rattle.std.specs.Prelude.{Contains}
 use Rattle.ojp_values.specs.Texts.{Text}
 use Rattle.csv.specs.Records.{fields_of}
-use Rattle.ojp_feed_lines.specs.Columns.{column_name}
 use Rattle.ojp_feed_lines.specs.IdTexts.{id_texts}
 use Rattle.ojp_feed_lines.specs.Rows.{at_place}
 use Rattle.ojp_feed_lines.specs.declared.refusals.RowReason.TheVariants as reasons

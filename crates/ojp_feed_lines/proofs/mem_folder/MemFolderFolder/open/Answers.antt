@@ -1,11 +1,11 @@
-use Rattle.std.proofs.Common.{◌≡◌, ◌<◌, List, ℕ, Option, Some, Result, Ok, Err, length}
+use Rattle.std.proofs.Common.{◌≡◌, ◌<◌, Option, Some, Result, Ok, Err, length}
 use Rattle.std.specs.Prelude.{IfErr, IfOk, IsSomeAnd}
 use Rattle.std.specs.Io.Cursor.{cursor_remaining}
 use Rattle.ojp_values.specs.Texts.{Text}
 use Rattle.ojp_feed_lines.proofs.Named.{named_found, named_missing, of_named}
 use Rattle.ojp_feed_lines.specs.declared.folder.TheConstants.{MOST_BYTES}
 use Rattle.ojp_feed_lines.specs.declared.folder.OpenRefused.{OpenRefused}
-use Rattle.ojp_feed_lines.specs.declared.folder.OpenRefused.TheVariants.{TooLong, Missing}
+use Rattle.ojp_feed_lines.specs.declared.folder.OpenRefused.TheVariants.{TooLong}
 use Rattle.ojp_feed_lines.specs.declared.mem_folder.MemReader.{MemReader}
 use Rattle.ojp_feed_lines.proofs.mem_folder.MemFolderFolder.open.Goals as goal
 

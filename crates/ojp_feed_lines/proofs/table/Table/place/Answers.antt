@@ -1,7 +1,7 @@
 use Rattle.std.proofs.Common.{arith}
 use Rattle.csv.specs.Records.{fields_of}
 use Rattle.ojp_feed_lines.specs.Columns.{column_name}
-use Rattle.ojp_feed_lines.proofs.PlaceFacts.{LacksBefore, lacks_name, under_first, under_none}
+use Rattle.ojp_feed_lines.proofs.PlaceFacts.{lacks_name, under_first, under_none}
 use Rattle.ojp_feed_lines.proofs.table.Table.place.Goals as goal
 
 pub returns-then-is_named-clause-under : goal.returns-then-is_named-clause-under
