@@ -16,7 +16,7 @@ use Rattle.std.proofs.lemmas.List.{length-map}
 use Rattle.std.proofs.lemmas.List.Elements.{Contains-append_right}
 use Rattle.ojp_values.specs.Numbers.{Reads}
 use Rattle.ojp_values.specs.Texts.{Text}
-use Rattle.ojp_feed_lines.specs.Causes.{BeginsWith, HasManyRows, HasRow, IsBad, IsCause, IsFor, IsIdReason, IsIdRefusal, IsLacking, IsOfHead, IsOfNoRow, IsOfRow, IsOfText, IsRefused, LacksName, TellsKind, checks, doubles, needs}
+use Rattle.ojp_feed_lines.specs.Causes.{AreSame, BeginsWith, HasManyRows, HasRow, IsBad, IsCause, IsFor, IsIdReason, IsIdRefusal, IsLacking, IsOfHead, IsOfNoRow, IsOfRow, IsOfText, IsRefused, LacksName, TellsKind, checks, doubles, needs}
 use Rattle.ojp_feed_lines.specs.Columns.{column_name}
 use Rattle.ojp_feed_lines.specs.Fields.{IsNoDate, compact_day, value_if}
 use Rattle.ojp_feed_lines.specs.IdTexts.{HoldsIds, id_texts}
@@ -223,11 +223,13 @@ ends_early head above row starts ends first last e placed placed_end start end e
     for_row files.Calendar head above row (reasons.Value columns.EndDate) e is
     (refl, inr (refl, (first, last, placed row ∙ start, placed_end row ∙ end, early)))
 
--- a date that stands twice
-pub date_doubled : (head : Record) (above : List Record) (row : Record) (e : FeedRefused)
+-- a date of a service that stands in a row above
+pub date_doubled : (head : Record) (above : List Record) (row other : Record) (e : FeedRefused)
+    → Contains above other → AreSame columns.Date head other row → AreSame columns.ServiceId head other row
     → IsFor (reasons.Doubled columns.Date) e → IsOfRow files.CalendarDates head above row e
 unfolding IsRefused
-date_doubled head above row e is = for_row files.CalendarDates head above row (reasons.Doubled columns.Date) e is (refl, inl refl)
+date_doubled head above row other e there date service is =
+    for_row files.CalendarDates head above row (reasons.Doubled columns.Date) e is (refl, (other, there, date, λ _. service))
 
 -- services of both calendars that are too many
 pub services_limit : (head : Record) (above : List Record) (row : Record) (e : FeedRefused) → IsFor reasons.Limit e → IsOfRow files.CalendarDates head above row e
@@ -254,37 +256,39 @@ contains_at f (x ∷ xs) y (suc k) below at =
 
 -- an id that is refused, where those that are there are the rows'
 id_reason : (file : FeedFile) (column : Column) (head : Record) (above : List Record) (row : Record) (place : ℕ) (ids : Ids) (reason : RowReason)
-    → IsTrue (checks file column) → IsBad column [] → IsTrue (doubles file column) → IsPlace head (column_name column) (Some place) → HoldsIds ids place above
+    → IsTrue (checks file column) → IsBad column [] → IsTrue (doubles file column) → (file ≢ files.CalendarDates)
+    → IsPlace head (column_name column) (Some place) → HoldsIds ids place above
     → IsIdReason (id_texts ids) (at_place row (Some place)) column reason → IsRefused file reason head above row
 unfolding IsRefused
-id_reason file column head above row place ids reasons.Limit checked bad once placed held h =
+id_reason file column head above row place ids reasons.Limit checked bad once other_file placed held h =
     let same : length (id_texts ids) ≡ length above = ap length held ∙ length-map above (λ (r : Record). at_place r (Some place)) in
     inr (omega (arith, h, same))
-id_reason file column head above row place ids (reasons.Value other) checked bad once placed held h =
+id_reason file column head above row place ids (reasons.Value other) checked bad once other_file placed held h =
     subst (λ (c : Column). IsRefused file (reasons.Value c) head above row) (sym h.0)
     (checked, inl (subst (λ (t : Text). IsBad column t) (sym (placed row ∙ h.1)) bad))
-id_reason file column head above row place ids (reasons.Doubled other) checked bad once placed held h =
+id_reason file column head above row place ids (reasons.Doubled other) checked bad once other_file placed held h =
     let (one, there, is) =
     let there = subst (λ (texts : List Text). Contains texts (at_place row (Some place))) held h.1 in
     contains_at (λ (r : Record). at_place r (Some place)) above (at_place row (Some place)) there.0 there.1 there.2
     in
     subst (λ (c : Column). IsRefused file (reasons.Doubled c) head above row) (sym h.0)
-    (once, inr (one, there, placed one ∙ is ∙ sym (placed row)))
-id_reason file column head above row place ids reasons.MissingFile checked bad once placed held h = absurd h
-id_reason file column head above row place ids (reasons.MissingColumn other) checked bad once placed held h = absurd h
-id_reason file column head above row place ids reasons.Width checked bad once placed held h = absurd h
-id_reason file column head above row place ids reasons.NotText checked bad once placed held h = absurd h
-id_reason file column head above row place ids reasons.TwoZones checked bad once placed held h = absurd h
-id_reason file column head above row place ids (reasons.Unknown other) checked bad once placed held h = absurd h
-id_reason file column head above row place ids reasons.LineForm checked bad once placed held h = absurd h
+    (once, (one, there, placed one ∙ is ∙ sym (placed row), λ dated. absurd (other_file dated)))
+id_reason file column head above row place ids reasons.MissingFile checked bad once other_file placed held h = absurd h
+id_reason file column head above row place ids (reasons.MissingColumn other) checked bad once other_file placed held h = absurd h
+id_reason file column head above row place ids reasons.Width checked bad once other_file placed held h = absurd h
+id_reason file column head above row place ids reasons.NotText checked bad once other_file placed held h = absurd h
+id_reason file column head above row place ids reasons.TwoZones checked bad once other_file placed held h = absurd h
+id_reason file column head above row place ids (reasons.Unknown other) checked bad once other_file placed held h = absurd h
+id_reason file column head above row place ids reasons.LineForm checked bad once other_file placed held h = absurd h
 
 pub id_refused : (file : FeedFile) (column : Column) (head : Record) (above : List Record) (row : Record) (place : ℕ) (ids : Ids) (e : FeedRefused)
-    → IsTrue (checks file column) → IsBad column [] → IsTrue (doubles file column) → IsPlace head (column_name column) (Some place) → HoldsIds ids place above
+    → IsTrue (checks file column) → IsBad column [] → IsTrue (doubles file column) → (file ≢ files.CalendarDates)
+    → IsPlace head (column_name column) (Some place) → HoldsIds ids place above
     → IsIdRefusal (id_texts ids) (at_place row (Some place)) column e → IsOfRow file head above row e
-id_refused file column head above row place ids (refusals.Unread other) checked bad once placed held h = absurd h
-id_refused file column head above row place ids (refusals.At other line reason) checked bad once placed held h =
-    id_reason file column head above row place ids reason checked bad once placed held h
-id_refused file column head above row place ids refusals.NoMemory checked bad once placed held h = tt
+id_refused file column head above row place ids (refusals.Unread other) checked bad once other_file placed held h = absurd h
+id_refused file column head above row place ids (refusals.At other line reason) checked bad once other_file placed held h =
+    id_reason file column head above row place ids reason checked bad once other_file placed held h
+id_refused file column head above row place ids refusals.NoMemory checked bad once other_file placed held h = tt
 
 -- the id of a service that is new in the second calendar
 new_reason : (head : Record) (above : List Record) (row : Record) (place : ℕ) (ids : List Text) (reason : RowReason)

@@ -1,4 +1,5 @@
 pub mod CauseFacts
+pub mod DateFacts
 pub mod Explained
 pub mod IdFacts
 pub mod Named

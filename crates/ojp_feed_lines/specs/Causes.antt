@@ -88,7 +88,7 @@ checks files.StopTimes columns.PickupType = true
 checks files.StopTimes columns.DropOffType = true
 checks _ _ = false
 
--- the columns of which no two rows may have the same
+-- the columns of which no two rows may have the same; in calendar_dates.txt no two rows of one service
 abbrev pub doubles : FeedFile → Column → Bool
 doubles files.Stops columns.StopId = true
 doubles files.Routes columns.RouteId = true
@@ -139,8 +139,7 @@ EndsEarly head row =
 abbrev pub AreSame : Column → Record → Record → Record → Type 0
 AreSame column head one other = under head (column_name column) one ≡ under head (column_name column) other
 
--- why a row is refused, by the head line and the rows above it; of a date that stands twice, and of services of both calendars that
--- are too many, nothing more is said
+-- why a row is refused, by the head line and the rows above it; of services of both calendars that are too many nothing more is said
 unfoldable pub IsRefused : FeedFile → RowReason → Record → List Record → Record → Type 0
 IsRefused file reasons.Width head above row = length row ≢ length head
 IsRefused file (reasons.Value column) head above row =
@@ -149,7 +148,8 @@ IsRefused file reasons.TwoZones head above row =
     (file ≡ files.Agency) × (other : Record) × Contains above other
     × (under head (column_name columns.AgencyTimezone) other ≢ under head (column_name columns.AgencyTimezone) row)
 IsRefused file (reasons.Doubled column) head above row =
-    IsTrue (doubles file column) × ((file ≡ files.CalendarDates) ⊎ ((other : Record) × Contains above other × AreSame column head other row))
+    IsTrue (doubles file column)
+    × ((other : Record) × Contains above other × AreSame column head other row × (file ≡ files.CalendarDates → AreSame columns.ServiceId head other row))
 IsRefused file reasons.Limit head above row = (file ≡ files.CalendarDates) ⊎ MOST_IDS ≤ length above
 IsRefused file reasons.MissingFile head above row = ⊥
 IsRefused file (reasons.MissingColumn column) head above row = ⊥

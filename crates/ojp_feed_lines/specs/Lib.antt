@@ -11,4 +11,5 @@ pub mod ReasonWords
 pub mod Refusals
 pub mod RowPlaces
 pub mod Rows
+pub mod ServiceDates
 pub mod Tables

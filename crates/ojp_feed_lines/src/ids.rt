@@ -81,6 +81,7 @@ impl Ids {
         column: Column,
     ) -> Result<(), FeedRefused>
         ensures refused { IfErr result (λ e. IsRowRefusal table.now.file e) }
+        ensures added { OnOk result (id_texts self.new ≡ id_texts self.old ++ or_nothing (field_at (fields_of table.now.row) place) ∷ []) }
         ensures taken { OnOk result ((rows : List Record) → HoldsIds self.old place rows → HoldsIds self.new place (rows ++ fields_of table.now.row ∷ [])) }
         ensures why { IfErr result (IsIdRefusal (id_texts self.old) (or_nothing (field_at (fields_of table.now.row) place)) column) }
     {

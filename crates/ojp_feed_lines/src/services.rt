@@ -1,15 +1,18 @@
 //! `calendar.txt` and `calendar_dates.txt`.
 
-ghost use Rattle.std.specs.Prelude.{◌≡◌, ◌≤◌, ◌∷◌, ◌++◌, ⊤, [], IfErr, IfOk, IsTrue, List, OnOk, Some};
+ghost use Rattle.std.specs.Prelude.{◌≡◌, ◌≤◌, ◌∷◌, ◌++◌, ℕ, [], Contains, IfErr, IfOk, IsTrue, List, Ok, OnOk, Some, false, true};
 ghost use Rattle.csv.specs.Records.{field_at, fields_of};
+ghost use Rattle.ojp_values.specs.Texts.{Text};
 ghost use Rattle.ojp_outside.specs.Causes.{Rose};
 ghost use Rattle.ojp_feed_lines.specs.Causes.{IsIdRefusal, IsOfHead, IsOfPlaced};
 ghost use Rattle.ojp_feed_lines.specs.Columns.{column_name};
-ghost use Rattle.ojp_feed_lines.specs.Fields.{exception_kind_of};
+ghost use Rattle.ojp_feed_lines.specs.Fields.{compact_day, exception_kind_of};
 ghost use Rattle.ojp_feed_lines.specs.IdTexts.{HoldsIds, id_texts};
+ghost use Rattle.ojp_feed_lines.specs.Lines.{IsIdOf};
 ghost use Rattle.ojp_feed_lines.specs.Refusals.{Explains, IsRowRefusal, is_unread};
-ghost use Rattle.ojp_feed_lines.specs.Rows.{IsPlace, Record, or_nothing};
+ghost use Rattle.ojp_feed_lines.specs.Rows.{IsPlace, Record, at_place, or_nothing};
 ghost use Rattle.ojp_feed_lines.specs.RowPlaces.{DatedPlaces, WeekdayPlaces, WeeklyPlaces};
+ghost use Rattle.ojp_feed_lines.specs.ServiceDates.{HoldDates};
 ghost use Rattle.ojp_feed_lines.specs.declared.columns.Column.{Column};
 ghost use Rattle.ojp_feed_lines.specs.declared.files.FeedFile.{FeedFile};
 
@@ -170,6 +173,7 @@ fn add_service<F: OpenedFile>(
     weekly: Option<Weekly>,
     services: &mut Services,
 ) -> Result<(), FeedRefused>
+    ensures added { OnOk result (id_texts services.new.ids ≡ id_texts services.old.ids ++ at_place (fields_of table.now.row) (Some place) ∷ []) }
     ensures taken { OnOk result ((rows : List Record) → HoldsIds services.old.ids place rows
         → HoldsIds services.new.ids place (rows ++ fields_of table.now.row ∷ [])) }
     ensures refused { IfErr result (λ e. IsRowRefusal table.now.file e) }
@@ -228,7 +232,7 @@ impl Rows for DatedRows {
 
     ghost places = { DatedPlaces };
 
-    ghost holds = { λ _ _ _. ⊤ };
+    ghost holds = { λ s c rows. HoldDates (id_texts s.services.ids) s.dated.keys c rows };
 
     fn columns<F: OpenedFile>(table: &Table<F>) -> Result<DatedColumns, FeedRefused> {
         Ok(DatedColumns {
@@ -250,11 +254,22 @@ impl Rows for DatedRows {
             service,
             day: exception.day,
         };
-        match self.dated.insert(dated) {
-            Ok(true) => add_exception(&mut self.services.services, service, exception),
-            Ok(false) => Err(table.refused(RowReason::Doubled(Column::Date))),
-            Err(_) => Err(FeedRefused::NoMemory),
+        if !keep_date(&mut self.dated, dated)? {
+            return Err(table.refused(RowReason::Doubled(Column::Date)));
         }
+        add_exception(&mut self.services.services, service, exception)
+    }
+}
+
+/// Keeps the date, and tells whether it was new.
+fn keep_date(dates: &mut IndexSet<Dated>, dated: Dated) -> Result<bool, FeedRefused>
+    ensures kept { result ≡ Ok true → dates.new.keys ≡ dates.old.keys ++ dated ∷ [] }
+    ensures there { result ≡ Ok false → Contains dates.old.keys dated }
+    ensures memory { IfErr result (λ e. e ≡ FeedRefused.NoMemory) }
+{
+    match dates.insert(dated) {
+        Ok(is_new) => Ok(is_new),
+        Err(_) => Err(FeedRefused::NoMemory),
     }
 }
 
@@ -262,6 +277,7 @@ fn exception_of<F: OpenedFile>(
     table: &Table<F>,
     columns: DatedColumns,
 ) -> Result<Exception, FeedRefused>
+    ensures day { IfOk result (λ exception. at_place (fields_of table.now.row) (Some columns.date) ≡ compact_day exception.day) }
     ensures refused { IfErr result (λ e. IsRowRefusal table.now.file e) }
     ensures why { IfErr result (λ e. IsOfPlaced FeedFile.CalendarDates (DatedPlaces columns) (fields_of table.now.row) e) }
 {
@@ -307,6 +323,8 @@ fn service_of<F: OpenedFile>(
     place: usize,
     services: &mut Services,
 ) -> Result<u32, FeedRefused>
+    ensures number { IfOk result (λ number. IsIdOf (id_texts services.new.ids) number (at_place (fields_of table.now.row) (Some place))) }
+    ensures kept { OnOk result ((number : ℕ) (id : Text) → IsIdOf (id_texts services.old.ids) number id → IsIdOf (id_texts services.new.ids) number id) }
     ensures refused { IfErr result (λ e. IsRowRefusal table.now.file e) }
     ensures why { IfErr result (λ e. IsOfPlaced FeedFile.CalendarDates (λ head. IsPlace head (column_name Column.ServiceId) (Some place)) (fields_of table.now.row) e) }
 {

@@ -1,4 +1,4 @@
-use Rattle.std.proofs.Common.{◌≡◌, ◌∙◌, Some, Ok, true, false, refl, rules, subst, sym}
+use Rattle.std.proofs.Common.{◌≡◌, ◌∙◌, ◌++◌, ◌∷◌, [], Some, Ok, true, false, refl, rules, subst, sym}
 use Rattle.std.specs.Prelude.{Contains}
 use Rattle.ojp_values.specs.Texts.{Text}
 use Rattle.csv.specs.Records.{fields_of}
@@ -18,6 +18,11 @@ returns-then-is_empty-clause-why g c =
     for_id (id_texts c.args.self.now) (at_place (fields_of c.args.table.now.row) (Some c.args.place)) c.args.column (reasons.Value c.args.column) c.refused-then-is_empty.result
     c.refused-then-is_empty.ensures.reason
     (refl, sym c.field-id.ensures ∙ empty_text c.field-id.result.now (sym c.is_empty.ensures ∙ c.if-is_empty.true))
+
+pub returns-then-branch-clause-added : goal.returns-then-branch-clause-added
+returns-then-branch-clause-added g c =
+    let added : c.add.result ≡ Ok true = search rules in
+    subst (λ (t : Text). id_texts c.add.new.self ≡ id_texts c.args.self.now ++ t ∷ []) c.field-id.ensures (c.add.ensures.added added)
 
 pub returns-then-branch-clause-taken : goal.returns-then-branch-clause-taken
 returns-then-branch-clause-taken g c =

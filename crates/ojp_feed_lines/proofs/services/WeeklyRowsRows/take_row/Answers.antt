@@ -15,4 +15,4 @@ pub returns-clause-why : goal.returns-clause-why
 returns-clause-why g c =
     on_err c.add_service.result _ _ c.add_service.ensures.why
     (λ e why head above placed held.
-    id_refused Calendar columns.ServiceId head above (fields_of c.args.table.now.row) c.args.columns.id c.args.self.now.services.ids e refl refl refl placed.id held why)
+    id_refused Calendar columns.ServiceId head above (fields_of c.args.table.now.row) c.args.columns.id c.args.self.now.services.ids e refl refl refl (λ is. absurd (cc)) placed.id held why)

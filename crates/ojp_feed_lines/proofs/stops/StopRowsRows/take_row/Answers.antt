@@ -10,7 +10,7 @@ pub returns-in_err-add_row-clause-why : goal.returns-in_err-add_row-clause-why
 returns-in_err-add_row-clause-why g c =
     rw (passed_is c.from_residual.result c.in_err-add_row.field-0.0 c.from_residual.ensures.1)
     (λ head above placed held.
-    id_refused Stops columns.StopId head above (fields_of c.args.table.now.row) c.args.columns.id c.args.self.now.ids c.in_err-add_row.field-0.0 refl refl refl placed.id held
+    id_refused Stops columns.StopId head above (fields_of c.args.table.now.row) c.args.columns.id c.args.self.now.ids c.in_err-add_row.field-0.0 refl refl refl (λ is. absurd (cc)) placed.id held
     c.in_err-add_row.ensures.why)
 
 pub returns-in_err-stop_of-clause-why : goal.returns-in_err-stop_of-clause-why

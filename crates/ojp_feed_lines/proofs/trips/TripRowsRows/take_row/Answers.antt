@@ -10,5 +10,5 @@ pub returns-in_err-add_trip-clause-why : goal.returns-in_err-add_trip-clause-why
 returns-in_err-add_trip-clause-why g c =
     rw (passed_is c.from_residual.result c.in_err-add_trip.field-0.0 c.from_residual.ensures.1)
     (λ head above placed held.
-    id_refused Trips columns.TripId head above (fields_of c.args.table.now.row) c.args.columns.id c.args.self.now.trips.ids c.in_err-add_trip.field-0.0 refl refl refl placed held
+    id_refused Trips columns.TripId head above (fields_of c.args.table.now.row) c.args.columns.id c.args.self.now.trips.ids c.in_err-add_trip.field-0.0 refl refl refl (λ is. absurd (cc)) placed held
     c.in_err-add_trip.ensures.why)
